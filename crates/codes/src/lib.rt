@@ -1,0 +1,1 @@
+// The rule book of the game stands in specs/.
