@@ -10,7 +10,8 @@ abbrev pub pick : {A : Type 0} → Bool → A → A → A
 pick true a b = a
 pick false a b = b
 
--- a game: so many pegs, each of so many colours. A code is a number: its pegs are its digits to the base of the colours, the first peg the lowest
+-- a game: so many pegs, each of so many colours. A code is a number, and its pegs are its digits to the base of the colours,
+-- the first peg the lowest digit
 pub record Game : Type 0 where
   pub pegs : ℕ
   pub colours : ℕ
@@ -30,7 +31,8 @@ power b (suc n) = b * power b n
 abbrev pub how-many : Game → ℕ
 how-many g = power (g .colours) (g .pegs)
 
--- pegs at the right place; pegs of a colour; and what both codes have of all colours, at whatever places
+-- the pegs that two codes have alike at the same place; the pegs of a colour; and, over all colours, what both codes have of it,
+-- at whatever places
 unfoldable pub at-place : List ℕ → List ℕ → ℕ
 at-place [] ys = 0
 at-place (x ∷ xs) [] = 0
@@ -47,7 +49,8 @@ unfoldable pub in-common : ℕ → List ℕ → List ℕ → ℕ
 in-common zero xs ys = 0
 in-common (suc c) xs ys = lesser (of-colour c xs) (of-colour c ys) + in-common c xs ys
 
--- an answer: how many at the right place, and how many more of the right colour
+-- what a guess is told: how many pegs are right, of the code's colour at their place, and how many more are near, of a colour
+-- that the code has elsewhere
 pub record Told : Type 0 where
   pub right : ℕ
   pub near : ℕ
@@ -62,7 +65,7 @@ told-of g code guess =
 abbrev pub same : Told → Told → Bool
 same s t = eqb (s .right) (t .right) && eqb (s .near) (t .near)
 
--- codes that are left when a guess was answered so
+-- the codes out of some that would be told so of a guess
 unfoldable pub left : Game → ℕ → Told → List ℕ → List ℕ
 left g q t [] = []
 left g q t (c ∷ cs) = pick (same (told-of g c q) t) (c ∷ left g q t cs) (left g q t cs)
@@ -71,7 +74,7 @@ unfoldable pub all-codes : ℕ → List ℕ
 all-codes zero = []
 all-codes (suc n) = all-codes n ++ (n ∷ [])
 
--- all answers there could be
+-- all that a guess could be told in a game of p pegs, by right and then near
 unfoldable pub with-near : ℕ → ℕ → List Told
 with-near r zero = record { right = r; near = 0 } ∷ []
 with-near r (suc n) = with-near r n ++ (record { right = r; near = suc n } ∷ [])
@@ -80,7 +83,8 @@ unfoldable pub all-told : ℕ → ℕ → List Told
 all-told p zero = with-near 0 p
 all-told p (suc r) = all-told p r ++ with-near (suc r) (p - suc r)
 
--- with k guesses more a code out of some can always be named, the last guess being the code
+-- are k guesses always enough to name a code out of some, the last guess being the code? None are needed for no code; else some
+-- guess has to leave, for each thing told but all right, codes for which one guess less is enough
 unfoldable pub each : (Told → Bool) → List Told → Bool
 each f [] = true
 each f (t ∷ ts) = f t && each f ts
@@ -93,13 +97,14 @@ unfoldable pub enough : Game → ℕ → List ℕ → Bool
 enough g zero cs = eqb (length cs) 0
 enough g (suc k) cs =
     eqb (length cs) 0
-    || some (λ q. each (λ t. eqb (t .right) (g .pegs) || enough g k (left g q t cs)) (all-told (g .pegs) (g .pegs))) (all-codes (how-many g))
+    || some (λ q. each (λ t. eqb (t .right) (g .pegs) || enough g k (left g q t cs)) (all-told (g .pegs) (g .pegs)))
+    (all-codes (how-many g))
 
--- does a guess do, with k guesses more after it
+-- does a guess do, if k more may follow it?
 unfoldable pub does : Game → ℕ → List ℕ → ℕ → Bool
 does g k cs q = each (λ t. eqb (t .right) (g .pegs) || enough g k (left g q t cs)) (all-told (g .pegs) (g .pegs))
 
--- the fewest guesses that are enough, up to a bound; and the first guess that does then
+-- the fewest guesses that are enough, and the smallest guess that does with so many
 unfoldable pub fewest-in : Game → List ℕ → ℕ → ℕ → ℕ
 fewest-in g cs zero k = k
 fewest-in g cs (suc n) k = pick (enough g k cs) k (fewest-in g cs n (suc k))

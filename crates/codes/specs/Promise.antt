@@ -1,4 +1,4 @@
--- What is promised. Each is a statement, a type whose proof is owed. Assumes nothing.
+-- What is promised of the desk and of guessing. Each is a statement, a type whose proof is owed. Assumes nothing.
 use mathlib.Core.Path.{_≡_}
 use mathlib.Core.Logic.{_⊎_, _≢_}
 use mathlib.Core.Bool.{Bool, true, false, not, _&&_, _||_}
@@ -9,12 +9,13 @@ use lib.ListN.{length, getD}
 use Rattle.codes.specs.Codes.{pick, Game, how-many, Told, told-of, left, enough, does, fewest, best}
 use Rattle.codes.specs.Calls.{Call, Answer, Asked, Limits, codes-left, among, turned, after, answer, answers}
 
--- games that are taken: at most 256 codes
+-- the games that are taken
 abbrev pub Taken : Game → Type 0
 Taken g = (0 < g .pegs) × (g .pegs ≤ 8) × (0 < g .colours) × (g .colours ≤ 16) × (how-many g ≤ 256)
 
--- THE MAIN PROMISE: the desk is what the contracts of the session's open and call say. For every game and list of calls its answers are those of the written desk: how many codes are left,
--- which, and with how few guesses more any of them can be named, whatever the answers, over all ways to guess
+-- THE MAIN PROMISE. A desk is what the contracts of opening and calling say of its memory and of its answers. For every game and
+-- every list of calls it answers as the written desk does: how many codes are left, which, and with how few guesses more any of
+-- them can be named, whatever is told, over all ways to guess; and a call that is turned away leaves its memory as it was
 pub record Memory : Type 0 where
   pub words : List ℕ
 
@@ -43,10 +44,13 @@ Refusal-keeps d =
     (l : Limits) (g : Game) (cs : List Call) (c : Call) → l .guesses ≤ 64 → Taken g → 0 < turned l g (ran l g [] cs) c →
     d .next (left-by d (d .opened l g) cs) c ≡ left-by d (d .opened l g) cs
 
--- 1. a way to guess: if k guesses are enough there is one, by what was told, that names every code in as many; and if they aren't, every way fails for some code
+-- a way to guess chooses each guess by nothing but what was told. If k guesses are enough there is one that names every code left
+-- in as many, and if they are not, every way fails for some code
 pub data Names (g : Game) (way : List Asked → ℕ) : ℕ → List Asked → ℕ → Type 0 where
   hit : {k : ℕ} {as' : List Asked} {c : ℕ} → way as' ≡ c → Names g way (suc k) as' c
-  miss : {k : ℕ} {as' : List Asked} {c : ℕ} → way as' ≢ c → Names g way k (record { guess = way as'; told = told-of g c (way as') } ∷ as') c → Names g way (suc k) as' c
+  miss :
+      {k : ℕ} {as' : List Asked} {c : ℕ} → way as' ≢ c →
+      Names g way k (record { guess = way as'; told = told-of g c (way as') } ∷ as') c → Names g way (suc k) as' c
 
 unfoldable pub A-way : Type 0
 A-way =
@@ -55,34 +59,39 @@ A-way =
 
 unfoldable pub No-way : Type 0
 No-way =
-    (g : Game) (k : ℕ) (as' : List Asked) (way : List Asked → ℕ) → Taken g → ((bs : List Asked) → way bs < how-many g) → enough g k (codes-left g as') ≡ false →
+    (g : Game) (k : ℕ) (as' : List Asked) (way : List Asked → ℕ) → Taken g → ((bs : List Asked) → way bs < how-many g) →
+    enough g k (codes-left g as') ≡ false →
     (c : ℕ) × (among c (codes-left g as') ≡ true) × (Names g way k as' c → ⊥)
 
--- 2. more guesses, or fewer codes, are never worse
+-- more guesses, or fewer codes, are never worse
 unfoldable pub More-guesses : Type 0
 More-guesses = (g : Game) (k : ℕ) (cs : List ℕ) → enough g k cs ≡ true → enough g (suc k) cs ≡ true
 
 unfoldable pub Fewer-codes : Type 0
 Fewer-codes =
-    (g : Game) (k : ℕ) (cs ds : List ℕ) → ((c : ℕ) → among c ds ≡ true → among c cs ≡ true) → enough g k cs ≡ true → enough g k ds ≡ true
+    (g : Game) (k : ℕ) (cs ds : List ℕ) → ((c : ℕ) → among c ds ≡ true → among c cs ≡ true) → enough g k cs ≡ true →
+    enough g k ds ≡ true
 
--- 3. a truthful answer never shuts out the code
+-- a truthful answer never shuts out the code
 unfoldable pub Never-out : Type 0
-Never-out = (g : Game) (as' : List Asked) (c q : ℕ) → among c (codes-left g as') ≡ true → among c (codes-left g (record { guess = q; told = told-of g c q } ∷ as')) ≡ true
+Never-out =
+    (g : Game) (as' : List Asked) (c q : ℕ) → among c (codes-left g as') ≡ true →
+    among c (codes-left g (record { guess = q; told = told-of g c q } ∷ as')) ≡ true
 
--- 4. what is told of two codes is the same either way round; and all right is only told of the code itself
+-- what is told of two codes is the same either way round, and all right is told of the code itself only
 unfoldable pub Either-way : Type 0
 Either-way = (g : Game) (c q : ℕ) → told-of g c q ≡ told-of g q c
 
 unfoldable pub All-right : Type 0
 All-right = (g : Game) (c q : ℕ) → Taken g → c < how-many g → q < how-many g → told-of g c q .right ≡ g .pegs → c ≡ q
 
--- 5. in whatever order: guesses and answers exchanged, the same codes are left
+-- guesses in another order leave the same codes
 unfoldable pub Any-order : Type 0
 Any-order = (g : Game) (a b : Asked) (as' : List Asked) → codes-left g (a ∷ (b ∷ as')) ≡ codes-left g (b ∷ (a ∷ as'))
 
--- 6. the advice does, and is the first that does
+-- the fewest are enough, the advised guess does, and no smaller guess does
 unfoldable pub Advice : Type 0
 Advice =
     (g : Game) (cs : List ℕ) (q : ℕ) → Taken g → 0 < length cs → ((c : ℕ) → among c cs ≡ true → c < how-many g) →
-    (enough g (fewest g cs) cs ≡ true) × (does g (fewest g cs - 1) cs (best g cs) ≡ true) × (q < best g cs → does g (fewest g cs - 1) cs q ≡ false)
+    (enough g (fewest g cs) cs ≡ true) × (does g (fewest g cs - 1) cs (best g cs) ≡ true)
+    × (q < best g cs → does g (fewest g cs - 1) cs q ≡ false)

@@ -1,13 +1,16 @@
 -- What the types of the code stand for. Assumes nothing: these are definitions.
+use mathlib.Core.Path.{_≡_}
 use mathlib.Core.List.{List, [], _∷_, _++_, map}
-use Prim.Native.Nat.{ℕ, suc}
+use Prim.Native.Nat.{ℕ, suc, _<_}
 use lib.Dec.{leb}
 use lib.ListN.{length, getD, drop}
 use denote.Ref.{RefT}
+use Rattle.std.specs.declared.option.Option.{Option}
 use Rattle.std.specs.declared.result.Result.{Result}
 use Rattle.std.specs.declared.result.Result.the-variants.{Ok, Err}
+use Rattle.std.specs.Options.{Cases}
 use Rattle.codes.specs.Codes.{pick}
-use Rattle.wire.specs.Rows.{Reading, row, ceases, size, values}
+use Rattle.wire.specs.Rows.{Reading, row, ceases, size, values, reading}
 use Rattle.codes.specs.Calls as book
 use Rattle.wire.specs.declared.answer.Answer.{Answer}
 use Rattle.wire.specs.declared.answer.Answer.the-variants.{Refused, Number, Two}
@@ -42,10 +45,22 @@ answered (Err g) = Err (g .place)
 abbrev pub lengths-of : List (List ℕ) → List ℕ
 lengths-of forms = map (λ ws. suc (size ws)) forms
 
+-- bytes that are the given ones, just so many; or none, since they are not as many
+abbrev pub Exactly : ℕ → List ℕ → Option (RefT (List ℕ)) → Type 0
+Exactly n bs r = Cases r (length bs ≡ n → ⊥) (λ x. (x .now ≡ bs) × (length bs ≡ n))
+
+-- a row with a number that has a length, and of that length
+abbrev pub Whole : List ℕ → List ℕ → Type 0
+Whole lengths bs = (getD bs 0 0 < length lengths) × (length bs ≡ getD lengths (getD bs 0 0) 0)
+
 -- a row that was found whole, by its first byte and those after it; or the place where it ceases to be one
-abbrev pub found : List (List ℕ) → Result (RefT (List ℕ)) Garbled → Reading
-found forms (Ok r) = row (getD (r .now) 0 0) (values (getD forms (getD (r .now) 0 0) []) (drop 1 (r .now)))
-found forms (Err g) = ceases (g .place)
+abbrev pub found-as : List (List ℕ) → Result (RefT (List ℕ)) Garbled → Reading
+found-as forms (Ok r) = row (getD (r .now) 0 0) (values (getD forms (getD (r .now) 0 0) []) (drop 1 (r .now)))
+found-as forms (Err g) = ceases (g .place)
+
+-- what is found is what is read, whatever the forms that have these lengths
+abbrev pub Found : List ℕ → List ℕ → Result (RefT (List ℕ)) Garbled → Type 0
+Found lengths bs r = (forms : List (List ℕ)) → lengths ≡ lengths-of forms → found-as forms r ≡ reading forms bs
 
 -- bytes at the front of a buffer that is long enough, and its rest as it was; else the buffer as it was, and how many are needed
 abbrev pub put-in : List ℕ → List ℕ → List ℕ

@@ -1,12 +1,7 @@
 // What the rows of calls and of answers share: how one is found whole, and how one is put into a buffer.
 ghost use mathlib.Core.Path.{_≡_};
-ghost use mathlib.Core.List.{List};
-ghost use Prim.Native.Nat.{ℕ, _<_};
-ghost use lib.ListN.{length, getD};
-ghost use Rattle.std.specs.Options.{Cases};
 ghost use Rattle.std.specs.Vec.{made};
-ghost use Rattle.wire.specs.Rows.{reading};
-ghost use Rattle.wire.specs.Meaning.{lengths-of, found, put-in, put-said};
+ghost use Rattle.wire.specs.Meaning.{Exactly, Whole, Found, put-in, put-said};
 
 // A row that cannot be read, and the first of its bytes that does not fit.
 #[derive(Clone, Copy, Debug, PartialEq, Eq)]
@@ -22,8 +17,8 @@ pub struct TooShort {
 
 // The row itself, where it has as many bytes as a row with its first byte has.
 pub(crate) fn whole<'a>(row: &'a [u8], lengths: &[u8]) -> Result<&'a [u8], Garbled>
-    ensures same { λ r. ⌜ made r (λ x. (x .now ≡ now (row .entry)) × (getD (x .now) 0 0 < length (now (lengths .entry))) × (length (x .now) ≡ getD (now (lengths .entry)) (getD (x .now) 0 0) 0)) ⌝ }
-    ensures reads { λ r. ⌜ ((forms : List (List ℕ)) → now (lengths .entry) ≡ lengths-of forms → found forms r ≡ reading forms (now (row .entry))) ⌝ }
+    ensures same { λ r. ⌜ made r (λ x. (x .now ≡ now (row .entry)) × Whole (now (lengths .entry)) (x .now)) ⌝ }
+    ensures reads { λ r. ⌜ Found (now (lengths .entry)) (now (row .entry)) r ⌝ }
 {
     let Some(number) = row.first() else {
         return Err(Garbled { place: 0 });
@@ -41,7 +36,7 @@ pub(crate) fn whole<'a>(row: &'a [u8], lengths: &[u8]) -> Result<&'a [u8], Garbl
 
 // The bytes themselves, where there are just so many.
 fn exactly(bytes: &[u8], count: usize) -> Option<&[u8]>
-    ensures { λ r. ⌜ Cases r (length (now (bytes .entry)) ≡ count → ⊥) (λ x. (x .now ≡ now (bytes .entry)) × (length (now (bytes .entry)) ≡ count)) ⌝ }
+    ensures { λ r. ⌜ Exactly count (now (bytes .entry)) r ⌝ }
 {
     if bytes.len() == count {
         Some(bytes)

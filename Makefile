@@ -1,0 +1,10 @@
+# `make run` lets the desk answer an example; `make test` runs the whole gate. Both need the toolchain's command `rt` alone.
+.PHONY: run test
+
+run:
+	@mkdir -p target
+	@rt check desk >target/run.log 2>&1 || { cat target/run.log; exit 1; }
+	@target/bin/desk examples/rows.txt
+
+test:
+	@.ci/run
