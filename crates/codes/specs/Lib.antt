@@ -1,3 +1,4 @@
-pub mod Codes
 pub mod Calls
+pub mod Codes
+pub mod Laws
 pub mod Promise

@@ -1,5 +1,12 @@
-// Lines of text: what they ask, and calls in words.
+// Lines of text: what a line asks (specs/Lines.antt), and calls and refusals in words (specs/Words.antt).
+mod line;
 mod words;
 
+pub use line::Line;
 pub use words::InWords;
 pub use words::InWordsDisplay;
+pub use words::Refused;
+pub use words::RefusedDisplay;
+
+#[cfg(test)]
+mod tests;

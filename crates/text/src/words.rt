@@ -1,6 +1,7 @@
 // Calls and refusals in words.
-ghost use Rattle.text.specs.Words.{in-words};
 ghost use Rattle.std.specs.declared.option.Option.the-variants.{Some};
+ghost use Rattle.text.specs.Words.{in-words, refused-at};
+ghost use Rattle.wire.specs.Meaning.{asks};
 use std::fmt;
 use wire::Call;
 
@@ -9,7 +10,7 @@ use wire::Call;
 pub struct InWords(pub Call);
 
 pub impl fmt::Display for InWords as InWordsDisplay {
-    ghost shown = { λ c. Some (in-words (c .0)) };
+    ghost shown = { λ c. Some (in-words (asks (c .0))) };
 
     fn fmt<W: fmt::Write>(&self, f: &mut fmt::Formatter<W>) -> fmt::Result {
         match self.0 {
@@ -19,5 +20,22 @@ pub impl fmt::Display for InWords as InWordsDisplay {
             Call::CouldBe(code) => write!(f, "could {code}"),
             Call::Advise => write!(f, "advise"),
         }
+    }
+}
+
+// A refusal as it is printed.
+#[derive(Clone, Copy)]
+pub struct Refused {
+    pub number: u32,
+    pub place: usize,
+}
+
+pub impl fmt::Display for Refused as RefusedDisplay {
+    ghost shown = { λ r. Some (refused-at (r .number) (r .place)) };
+
+    fn fmt<W: fmt::Write>(&self, f: &mut fmt::Formatter<W>) -> fmt::Result {
+        let number = self.number;
+        let place = self.place;
+        write!(f, "refused {number} at {place}")
     }
 }

@@ -1,0 +1,43 @@
+// What is printed for a line.
+ghost use mathlib.Core.Path.{_≡_};
+ghost use Rattle.desk.specs.Replies.{reply-to};
+ghost use Rattle.std.specs.Of.String.{string-bytes};
+ghost use Rattle.std.specs.Options.{mapped};
+ghost use Rattle.std.specs.Vec.{made};
+ghost use Rattle.text.specs.Words.{in-words, refused-at};
+ghost use Rattle.wire.specs.Format.{call-of};
+use std::alloc::AllocError;
+use std::alloc::Global;
+use text::InWords;
+use text::InWordsDisplay;
+use text::Line;
+use text::Refused;
+use text::RefusedDisplay;
+use wire::Call;
+
+// The reply to a line, its line feed taken off; none for one that is passed over.
+pub fn reply_to(heap: Global, line: &[u8]) -> Result<Option<String>, AllocError>
+    ensures { λ r. ⌜ made r (λ s. mapped string-bytes s ≡ reply-to (now (line .entry))) ⌝ }
+{
+    match Line::read(heap, line)? {
+        Line::Skipped => Ok(None),
+        Line::Row(row) => Ok(Some(reply_to_row(heap, row.as_slice())?)),
+        Line::Unreadable { place } => Ok(Some(refusal(heap, place)?)),
+    }
+}
+
+// The call that a row of bytes is, or how it is refused.
+fn reply_to_row(heap: Global, row: &[u8]) -> Result<String, AllocError>
+    ensures { λ r. ⌜ made r (λ s. string-bytes s ≡ in-words (call-of (now (row .entry)))) ⌝ }
+{
+    match Call::read(row) {
+        Ok(call) => InWords(call).to_string(heap),
+        Err(garbled) => refusal(heap, garbled.place as usize),
+    }
+}
+
+fn refusal(heap: Global, place: usize) -> Result<String, AllocError>
+    ensures { λ r. ⌜ made r (λ s. string-bytes s ≡ refused-at 1 place) ⌝ }
+{
+    Refused { number: 1, place }.to_string(heap)
+}
