@@ -1,11 +1,22 @@
 -- What the desk prints for a line. Assumes nothing: these are definitions.
+use mathlib.Core.Bool.{_&&_}
 use mathlib.Core.List.{List}
-use Prim.Native.Nat.{ℕ}
+use Prim.Native.Nat.{ℕ, _-_}
+use lib.Dec.{ltb, eqb}
+use lib.ListN.{length, getD, take}
 use Rattle.std.specs.declared.option.Option.{Option}
 use Rattle.std.specs.declared.option.Option.the-variants.{Some, None}
+use Rattle.codes.specs.Codes.{pick}
 use Rattle.text.specs.Lines.{Line, skipped, row, ceases, line-of}
 use Rattle.text.specs.Words.{in-words, refused-at}
 use Rattle.wire.specs.Format.{call-of}
+
+-- a text without a last character, where that is the given one; and a line without its line feed and carriage return
+abbrev pub shortened : ℕ → List ℕ → List ℕ
+shortened c cs = pick (ltb 0 (length cs) && eqb (getD cs (length cs - 1) 0) c) (take (length cs - 1) cs) cs
+
+abbrev pub unended : List ℕ → List ℕ
+unended cs = shortened 13 (shortened 10 cs)
 
 -- nothing for a line that is passed over; the call that a row of bytes is, or how it is refused; and a refusal of any other line
 abbrev pub reply : Line → Option (List ℕ)
@@ -14,4 +25,4 @@ reply (row bs) = Some (in-words (call-of bs))
 reply (ceases n) = Some (refused-at 1 n)
 
 abbrev pub reply-to : List ℕ → Option (List ℕ)
-reply-to cs = reply (line-of cs)
+reply-to cs = reply (line-of (unended cs))

@@ -1,12 +1,39 @@
-// Answers lines: those of a file that is named, or of standard input.
+// Answers lines, each as soon as it is read: those of the file that is named, or of standard input.
 mod replies;
 
 use replies::reply_to;
-use std::io;
+use std::env;
+use std::error::AnyError;
+use std::fs;
+use std::io::BufRead;
+use std::io::BufReader;
 
-fn main(rt: LibcRuntime) -> io::Result<()> {
-    if let Some(s) = reply_to(rt.alloc(), b"bytes 00 01 00 00 01")? {
-        rt.println(s)?;
+const USAGE: &str = "usage: desk [FILE]";
+
+fn answer_lines<R: BufRead + Drop>(rt: &LibcRuntime, mut input: R) -> Result<(), AnyError> {
+    let heap = rt.alloc();
+    let mut line = Vec::new(heap);
+    for _ in 0..u64::MAX {
+        line.clear();
+        if input.read_until(b'\n', &mut line)? == 0 {
+            break;
+        }
+        if let Some(reply) = reply_to(heap, line.as_slice())? {
+            rt.println(reply)?;
+        }
     }
     Ok(())
+}
+
+fn run(rt: &LibcRuntime) -> Result<(), AnyError> {
+    let mut words = env::args(rt)?.skip(1);
+    match (words.next(), words.next()) {
+        (None, _) => answer_lines(rt, BufReader::new(rt.stdin())),
+        (Some(path), None) => answer_lines(rt, BufReader::new(fs::open(rt, path.as_str())?)),
+        _ => Err(USAGE.into()),
+    }
+}
+
+fn main(rt: LibcRuntime) -> Result<(), AnyError> {
+    rt.report(run(&rt))
 }

@@ -1,6 +1,6 @@
 // What is printed for a line.
 ghost use mathlib.Core.Path.{_≡_};
-ghost use Rattle.desk.specs.Replies.{reply-to};
+ghost use Rattle.desk.specs.Replies.{shortened, reply-to};
 ghost use Rattle.std.specs.Of.String.{string-bytes};
 ghost use Rattle.std.specs.Options.{mapped};
 ghost use Rattle.std.specs.Vec.{made};
@@ -15,10 +15,11 @@ use text::Refused;
 use text::RefusedDisplay;
 use wire::Call;
 
-// The reply to a line, its line feed taken off; none for one that is passed over.
+// The reply to a line; none for one that is passed over.
 pub fn reply_to(heap: Global, line: &[u8]) -> Result<Option<String>, AllocError>
     ensures { λ r. ⌜ made r (λ s. mapped string-bytes s ≡ reply-to (now (line .entry))) ⌝ }
 {
+    let line = without(without(line, b'\n'), b'\r');
     match Line::read(heap, line)? {
         Line::Skipped => Ok(None),
         Line::Row(row) => Ok(Some(reply_to_row(heap, row.as_slice())?)),
@@ -40,4 +41,14 @@ fn refusal(heap: Global, place: usize) -> Result<String, AllocError>
     ensures { λ r. ⌜ made r (λ s. string-bytes s ≡ refused-at 1 place) ⌝ }
 {
     Refused { number: 1, place }.to_string(heap)
+}
+
+// A text without its last character, where that is the given one.
+fn without(text: &[u8], last: u8) -> &[u8]
+    ensures { λ r. ⌜ now r ≡ shortened last (now (text .entry)) ⌝ }
+{
+    let [front @ .., c] = text else {
+        return text;
+    };
+    if *c == last { front } else { text }
 }
