@@ -8,8 +8,6 @@ use std::fs;
 use std::io::BufRead;
 use std::io::BufReader;
 
-const USAGE: &str = "usage: desk [FILE]";
-
 fn answer_lines<R: BufRead + Drop>(rt: &LibcRuntime, mut input: R) -> Result<(), AnyError> {
     let heap = rt.alloc();
     let mut line = Vec::new(heap);
@@ -25,15 +23,26 @@ fn answer_lines<R: BufRead + Drop>(rt: &LibcRuntime, mut input: R) -> Result<(),
     Ok(())
 }
 
+fn answer_file(rt: &LibcRuntime, path: &str) -> Result<(), AnyError> {
+    match fs::open(rt, path) {
+        Ok(file) => answer_lines(rt, BufReader::new(file)),
+        Err(error) => Err(format!(rt.alloc(), "{path}: {error}")?.into()),
+    }
+}
+
 fn run(rt: &LibcRuntime) -> Result<(), AnyError> {
     let mut words = env::args(rt)?.skip(1);
     match (words.next(), words.next()) {
         (None, _) => answer_lines(rt, BufReader::new(rt.stdin())),
-        (Some(path), None) => answer_lines(rt, BufReader::new(fs::open(rt, path.as_str())?)),
-        _ => Err(USAGE.into()),
+        (Some(path), None) => answer_file(rt, path.as_str()),
+        _ => Err("usage: desk [FILE]".into()),
     }
 }
 
 fn main(rt: LibcRuntime) -> Result<(), AnyError> {
-    rt.report(run(&rt))
+    let outcome = run(&rt);
+    if let Err(error) = &outcome {
+        eprintln!(rt, "desk: {error}")?;
+    }
+    outcome
 }
