@@ -2,14 +2,15 @@
 use mathlib.Core.Path.{_≡_, refl, sym, ap, subst, _∙_}
 use mathlib.Core.List.{List, [], _∷_, _++_, map, append-assoc}
 use mathlib.Core.Bool.{Bool, true, false}
-use mathlib.Core.Logic.{_⊎_, inl, inr}
+use mathlib.Core.Logic.{_⊎_, inl, inr, ⊎-elim}
 use Prim.Native.Nat.{ℕ, zero, suc, _+_, _-_, _*_, _/_, _^_, _≤_, _<_}
 use native.Mathlib.Nat.{pow-succ'}
 use native.Mathlib.Omega.{arith}
 use lib.Dec.{ltb, eqb}
 use lib.ListN.{length, getD, take, drop, replicate}
 use Rattle.std.specs.Iters.{counting}
-use Rattle.std.proofs.shelf.Lists.{take-at, take-take, drop-at, length-append, length-drop, take-append-drop, length-take-le, length-replicate}
+use Rattle.std.proofs.shelf.Lists.{take-at, take-take, take-append-drop, drop-at}
+use Rattle.std.proofs.shelf.Lists.{length-append, length-drop, length-take-le, length-replicate}
 use Rattle.std.proofs.shelf.Elements.{all-append, all-take, all-drop}
 use Rattle.std.proofs.shelf.Counted.{fill-by-all}
 use Rattle.std.proofs.shelf.Tests.{ltb-true, ltb-false, eqb-true, cases-order}
@@ -18,15 +19,15 @@ use Rattle.codes.specs.Codes.{pick}
 use Rattle.wire.specs.Rows.{Bytes, low-first, number-of, size, written, values, Fit}
 use Rattle.wire.specs.Rows.{Reading, row, ceases, by-form, reading, Fits, row-bytes, Begins, Ceases, Only}
 
-pub number-of-low-first : (w n : ℕ) → n < 256 ^ w → number-of (low-first w n) ≡ n
+number-of-low-first : (w n : ℕ) → n < 256 ^ w → number-of (low-first w n) ≡ n
 number-of-low-first zero n h = omega arith
 number-of-low-first (suc w) n h = let p = pow-succ' 256 w in let ih = number-of-low-first w (n / 256) (omega arith) in omega arith
 
-pub low-first-number-of : (bs : List ℕ) → Bytes bs → low-first (length bs) (number-of bs) ≡ bs
+low-first-number-of : (bs : List ℕ) → Bytes bs → low-first (length bs) (number-of bs) ≡ bs
 low-first-number-of [] h = refl
 low-first-number-of (b ∷ bs) h = let ih = low-first-number-of bs (h .1) in grind arith
 
-pub number-of-lt : (bs : List ℕ) → Bytes bs → number-of bs < 256 ^ length bs
+number-of-lt : (bs : List ℕ) → Bytes bs → number-of bs < 256 ^ length bs
 number-of-lt [] h = omega arith
 number-of-lt (b ∷ bs) h = let p = pow-succ' 256 (length bs) in let ih = number-of-lt bs (h .1) in omega arith
 
@@ -41,16 +42,16 @@ number-of-reads [] (suc n) e = absurd (omega arith)
 number-of-reads (b ∷ bs) zero e = absurd (omega arith)
 number-of-reads (b ∷ bs) (suc n) e = ap (λ m. b + 256 * m) (number-of-reads bs n (omega arith))
 
-pub length-low-first : (w n : ℕ) → length (low-first w n) ≡ w
+length-low-first : (w n : ℕ) → length (low-first w n) ≡ w
 length-low-first zero n = refl
 length-low-first (suc w) n = ap suc (length-low-first w (n / 256))
 
-pub length-written : (ws vs : List ℕ) → Fit ws vs → length (written ws vs) ≡ size ws
+length-written : (ws vs : List ℕ) → Fit ws vs → length (written ws vs) ≡ size ws
 length-written [] vs f = refl
 length-written (w ∷ ws) [] f = elim f [ ]
 length-written (w ∷ ws) (v ∷ vs) f = simp (length-append, length-low-first, length-written ws vs (f .1))
 
-pub values-written : (ws vs : List ℕ) → Fit ws vs → values ws (written ws vs) ≡ vs
+values-written : (ws vs : List ℕ) → Fit ws vs → values ws (written ws vs) ≡ vs
 values-written [] [] f = refl
 values-written [] (v ∷ vs) f = elim f [ ]
 values-written (w ∷ ws) [] f = elim f [ ]
@@ -58,7 +59,7 @@ values-written (w ∷ ws) (v ∷ vs) f =
     let l = length-low-first w v in
     simp (take-at _ (written ws vs) w l, drop-at _ (written ws vs) w l, number-of-low-first w v (f .0), values-written ws vs (f .1))
 
-pub written-values : (ws bs : List ℕ) → length bs ≡ size ws → Bytes bs → written ws (values ws bs) ≡ bs
+written-values : (ws bs : List ℕ) → length bs ≡ size ws → Bytes bs → written ws (values ws bs) ≡ bs
 written-values [] [] l h = refl
 written-values [] (b ∷ bs) l h = absurd (omega arith)
 written-values (w ∷ ws) bs l h =
@@ -66,7 +67,7 @@ written-values (w ∷ ws) bs l h =
     let ih = written-values ws (drop w bs) (simp length-drop (omega arith)) (all-drop _ w bs h) in
     cc (low-first-number-of (take w bs) (all-take _ w bs h), take-append-drop w bs)
 
-pub fit-values : (ws bs : List ℕ) → length bs ≡ size ws → Bytes bs → Fit ws (values ws bs)
+fit-values : (ws bs : List ℕ) → length bs ≡ size ws → Bytes bs → Fit ws (values ws bs)
 fit-values [] bs l h = tt
 fit-values (w ∷ ws) bs l h =
     let front = length-take-le w bs (omega arith) in
@@ -100,8 +101,11 @@ module _ {A : Type 0} (Known : A → Type 0) (bytes : A → List ℕ) (bs : List
         | inr s ↦ elim (d .stuck) [ inl e ↦ omega arith | inr e ↦ omega arith ]
       ]
 
-  pub ceases-once : (n : ℕ) → Ceases Known bytes bs n → Only (Ceases Known bytes bs) n
-  ceases-once n c = (c, λ m d. elim (cases-order m n) [ inl e ↦ e | inr o ↦ elim o [ inl h ↦ absurd (no-later m n d c h) | inr h ↦ absurd (no-later n m c d h) ] ])
+  ceases-once : (n : ℕ) → Ceases Known bytes bs n → Only (Ceases Known bytes bs) n
+  ceases-once n c = (
+    c,
+    λ m d. ⊎-elim (λ e. e) (⊎-elim (λ lt. absurd (no-later m n d c lt)) (λ lt. absurd (no-later n m c d lt))) (cases-order m n),
+  )
 
 module _ (forms : List (List ℕ)) where
   pub reading-row-bytes : (r : Reading) → Fits forms r → reading forms (row-bytes forms r) ≡ r
@@ -184,7 +188,8 @@ module _ (forms : List (List ℕ)) where
   -- where bytes cease to be a row they cease to be one of the things that rows stand for, if each fitting row stands for one
   pub cease-as :
       {A : Type 0} (to : A → Reading) → ((r : Reading) → Fits forms r → (a : A) × (to a ≡ r)) → 0 < length forms →
-      (bs : List ℕ) (n : ℕ) → Bytes bs → reading forms bs ≡ ceases n → Only (Ceases (λ a. Fits forms (to a)) (λ a. row-bytes forms (to a)) bs) n
+      (bs : List ℕ) (n : ℕ) → Bytes bs → reading forms bs ≡ ceases n →
+      Only (Ceases (λ a. Fits forms (to a)) (λ a. row-bytes forms (to a)) bs) n
   cease-as to onto some bs n h e =
       let c : Ceases (Fits forms) (row-bytes forms) bs n = subst (Sound bs) e (reading-sound bs some h) in
       let a = onto (c .begun .0) (c .begun .1) in
