@@ -7,8 +7,10 @@ use lib.ListN.{getD}
 use Rattle.std.specs.declared.result.Result.the-variants.{Ok, Err}
 use Rattle.codes.specs.Calls.{Call, was-told, back, left-over, could-be, advise, garbled, Answer, refused, number, two}
 use Rattle.wire.specs.Rows.{Reading, row, ceases, Fits, row-bytes, reading}
-use Rattle.wire.specs.Format.{call-forms, call-row, call-in, call-of, Call-fits, bytes-of, answer-forms, answer-row, answer-in}
-use Rattle.wire.specs.Laws.{Calls-read-back, Calls-written-back, Calls-differ, Calls-cease, Answers-read-back, Answers-cease}
+use Rattle.wire.specs.Format.{call-forms, call-row, call-in, call-of, Call-fits, bytes-of}
+use Rattle.wire.specs.Format.{answer-forms, answer-row, answer-in, Answer-fits, answer-bytes}
+use Rattle.wire.specs.Laws.{Calls-read-back, Calls-written-back, Calls-differ, Calls-cease}
+use Rattle.wire.specs.Laws.{Answers-read-back, Answers-written-back, Answers-cease}
 use Rattle.wire.proofs.Rows.{reading-row-bytes, Sound, reading-sound, row-counted, cease-as}
 
 call-in-row : (c : Call) → call-in (call-row c) ≡ c
@@ -38,14 +40,14 @@ calls-read-back c f = ap call-in (reading-row-bytes call-forms (call-row c) f) �
 pub calls-differ : Calls-differ
 calls-differ c d f g e = sym (calls-read-back c f) ∙ ap call-of e ∙ calls-read-back d g
 
-written-back :
+call-written :
     (bs : List ℕ) (r : Reading) → Sound call-forms bs r → ((n : ℕ) → call-in r ≡ garbled n → ⊥) →
     Call-fits (call-in r) × (bytes-of (call-in r) ≡ bs)
-written-back bs (row k vs) s f = let e = call-row-in (row k vs) (s .0) in (rw e (s .0), ap (row-bytes call-forms) e ∙ s .1)
-written-back bs (ceases n) s f = absurd (f n refl)
+call-written bs (row k vs) s f = rw (call-row-in (row k vs) (s .0)) s
+call-written bs (ceases n) s f = absurd (f n refl)
 
 pub calls-written-back : Calls-written-back
-calls-written-back bs h f = written-back bs (reading call-forms bs) (reading-sound call-forms bs (omega arith) h) f
+calls-written-back bs h f = call-written bs (reading call-forms bs) (reading-sound call-forms bs (omega arith) h) f
 
 pub calls-cease : Calls-cease
 calls-cease bs n h e = cease-as call-forms call-row (λ r f. (call-in r, call-row-in r f)) (omega arith) bs n h (call-ceases _ n e)
@@ -68,6 +70,17 @@ answer-ceases (ceases m) n e = cc
 
 pub answers-read-back : Answers-read-back
 answers-read-back a f = ap answer-in (reading-row-bytes answer-forms (answer-row a) f) ∙ answer-in-row a
+
+answer-written :
+    (bs : List ℕ) (r : Reading) (a : Answer) → Sound answer-forms bs r → answer-in r ≡ Ok a → Answer-fits a × (answer-bytes a ≡ bs)
+answer-written bs (row k vs) a s e =
+    let is = row-answer (row k vs) (s .0) in
+    let same : answer-row a ≡ row k vs = cc (answer-in-row (is .0), is .1) in
+    rw same s
+answer-written bs (ceases n) a s e = let no : _≡_ {A = ℕ} 0 1 = cc in absurd (omega arith)
+
+pub answers-written-back : Answers-written-back
+answers-written-back bs a h e = answer-written bs (reading answer-forms bs) a (reading-sound answer-forms bs (omega arith) h) e
 
 pub answers-cease : Answers-cease
 answers-cease bs n h e = cease-as answer-forms answer-row row-answer (omega arith) bs n h (answer-ceases _ n e)

@@ -11,7 +11,7 @@ use Rattle.wire.specs.Format.{call-of, Call-fits, bytes-of, answer-of, Answer-
 abbrev pub Calls-read-back : Type 0
 Calls-read-back = (c : Call) → Call-fits c → call-of (bytes-of c) ≡ c
 
--- and a row that is not garbled has just the bytes of the call that it is read as
+-- and what is read as a call that is not garbled has just the bytes of that call
 abbrev pub Calls-written-back : Type 0
 Calls-written-back =
     (bs : List ℕ) → Bytes bs → ((n : ℕ) → call-of bs ≡ garbled n → ⊥) → Call-fits (call-of bs) × (bytes-of (call-of bs) ≡ bs)
@@ -27,6 +27,9 @@ Calls-cease = (bs : List ℕ) (n : ℕ) → Bytes bs → call-of bs ≡ garbled 
 -- the same of answers, and of bytes that are none
 abbrev pub Answers-read-back : Type 0
 Answers-read-back = (a : Answer) → Answer-fits a → answer-of (answer-bytes a) ≡ Ok a
+
+abbrev pub Answers-written-back : Type 0
+Answers-written-back = (bs : List ℕ) (a : Answer) → Bytes bs → answer-of bs ≡ Ok a → Answer-fits a × (answer-bytes a ≡ bs)
 
 abbrev pub Answers-cease : Type 0
 Answers-cease = (bs : List ℕ) (n : ℕ) → Bytes bs → answer-of bs ≡ Err n → Only (Ceases Answer-fits answer-bytes bs) n

@@ -1,12 +1,12 @@
 // An answer, and its bytes.
 ghost use mathlib.Core.Path.{_≡_};
+ghost use mathlib.Core.List.{List, _∷_, _++_};
 ghost use lib.ListN.{length};
 ghost use Rattle.codes.specs.Calls.{Limits, Asked, answer, garbled};
 ghost use Rattle.codes.specs.Codes.{Game};
 ghost use Rattle.wire.specs.Format.{answer-of, answer-bytes};
 ghost use Rattle.wire.specs.Meaning.{says, answered, put-in, put-said};
 ghost use Rattle.wire.specs.Rows.{number-of, low-first};
-ghost use mathlib.Core.List.{List, _∷_, _++_};
 use crate::row::Garbled;
 use crate::row::TooShort;
 use crate::row::put;
@@ -29,16 +29,15 @@ impl Answer {
         ensures { λ r. ⌜ answered r ≡ answer-of (now (row .entry)) ⌝ }
     {
         let row = whole(row, &LENGTHS)?;
-        Ok(
-            match row[0] {
-                0 => Answer::Refused {
-                    number: number(&row[1..5]),
-                    place: number(&row[5..9]),
-                },
-                1 => Answer::Number(number(&row[1..5])),
-                _ => Answer::Two(number(&row[1..5]), number(&row[5..9])),
+        let answer = match row[0] {
+            0 => Answer::Refused {
+                number: number(&row[1..5]),
+                place: number(&row[5..9]),
             },
-        )
+            1 => Answer::Number(number(&row[1..5])),
+            _ => Answer::Two(number(&row[1..5]), number(&row[5..9])),
+        };
+        Ok(answer)
     }
 
     // Writes the answer's bytes to the front of a buffer and says how many; one that is too short is left as it was.

@@ -1,9 +1,9 @@
 // A call, and its bytes.
 ghost use mathlib.Core.Path.{_≡_};
 ghost use lib.ListN.{length};
-ghost use Rattle.wire.specs.Rows.{number-of};
 ghost use Rattle.wire.specs.Format.{call-of, bytes-of};
 ghost use Rattle.wire.specs.Meaning.{asks, asked, put-in, put-said};
+ghost use Rattle.wire.specs.Rows.{number-of};
 use crate::row::Garbled;
 use crate::row::TooShort;
 use crate::row::put;
@@ -29,19 +29,18 @@ impl Call {
         ensures { λ r. ⌜ asked r ≡ call-of (now (row .entry)) ⌝ }
     {
         let row = whole(row, &LENGTHS)?;
-        Ok(
-            match row[0] {
-                0 => Call::Told {
-                    guess: code(&row[1..3]),
-                    right: row[3],
-                    near: row[4],
-                },
-                1 => Call::Back,
-                2 => Call::Left,
-                3 => Call::CouldBe(code(&row[1..3])),
-                _ => Call::Advise,
+        let call = match row[0] {
+            0 => Call::Told {
+                guess: code(&row[1..3]),
+                right: row[3],
+                near: row[4],
             },
-        )
+            1 => Call::Back,
+            2 => Call::Left,
+            3 => Call::CouldBe(code(&row[1..3])),
+            _ => Call::Advise,
+        };
+        Ok(call)
     }
 
     // Writes the call's bytes to the front of a buffer and says how many; one that is too short is left as it was.

@@ -1,5 +1,5 @@
 // The laws of the format: each function carries a statement of specs/Laws.antt, and does nothing.
-ghost use Rattle.wire.specs.Laws.{Calls-read-back, Calls-written-back, Calls-differ, Calls-cease, Answers-read-back, Answers-cease};
+ghost use Rattle.wire.specs.Laws.{Calls-read-back, Calls-written-back, Calls-differ, Calls-cease, Answers-read-back, Answers-written-back, Answers-cease};
 
 // Reading what was written gives the same call.
 pub fn calls_read_back() -> u8
@@ -8,7 +8,7 @@ pub fn calls_read_back() -> u8
     0
 }
 
-// A row that is not garbled has just the bytes of the call that it is read as.
+// What is read as a call that is not garbled has just the bytes of that call.
 pub fn calls_written_back() -> u8
     ensures { λ _. ⌜ Calls-written-back ⌝ }
 {
@@ -32,6 +32,13 @@ pub fn calls_cease() -> u8
 // Reading what was written gives the same answer.
 pub fn answers_read_back() -> u8
     ensures { λ _. ⌜ Answers-read-back ⌝ }
+{
+    0
+}
+
+// What is read as an answer has just the bytes of that answer.
+pub fn answers_written_back() -> u8
+    ensures { λ _. ⌜ Answers-written-back ⌝ }
 {
     0
 }
