@@ -3,6 +3,7 @@
 
 run:
 	@mkdir -p target
+	@echo 'Proving and building desk: a minute or two the first time.' >&2
 	@rt check desk >target/run.log 2>&1 || { cat target/run.log; exit 1; }
 	@target/bin/desk examples/rows.txt
 

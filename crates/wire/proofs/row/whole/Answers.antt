@@ -1,9 +1,10 @@
 use mathlib.Core.List.{List}
-use mathlib.Core.Path.{_≡_}
+use mathlib.Core.Path.{_≡_, ap, _∙_}
 use Prim.Native.Nat.{ℕ}
 use native.Mathlib.Omega.{arith}
 use Rattle.std.proofs.shelf.Ways.{tells}
 use Rattle.wire.specs.Meaning.{lengths-of}
+use Rattle.wire.specs.Rows.{ceases}
 use Rattle.wire.proofs.Found.{Begun, Known, no-form, misfit, fit}
 use Rattle.wire.proofs.row.whole.Needs as need
 use Rattle.wire.proofs.row.whole.Needs.{In-Some, In-Some-get}
@@ -28,7 +29,7 @@ returns-in-rest-exactly c =
     let apart = c .in-rest-exactly .ensures tt in
     record {
       same = tt;
-      reads = λ forms e. cc (misfit forms _ _ _ _ (begun (at .In-Some) forms e) (known (at .In-Some-get)) apart, c .min .ensures);
+      reads = λ forms e. ap ceases (c .min .ensures) ∙ misfit forms _ _ _ _ (begun (at .In-Some) forms e) (known (at .In-Some-get)) apart;
     }
 
 pub returns : need.returns
