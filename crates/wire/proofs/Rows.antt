@@ -31,16 +31,9 @@ number-of-lt : (bs : List ℕ) → Bytes bs → number-of bs < 256 ^ length bs
 number-of-lt [] h = omega arith
 number-of-lt (b ∷ bs) h = let p = pow-succ' 256 (length bs) in let ih = number-of-lt bs (h .1) in omega arith
 
--- the number in n bytes, byte by byte
-abbrev pub number-by : (ℕ → ℕ) → ℕ → ℕ
-number-by f zero = 0
-number-by f (suc n) = f 0 + 256 * number-by (λ i. f (suc i)) n
-
-pub number-of-reads : (bs : List ℕ) (n : ℕ) → length bs ≡ n → number-of bs ≡ number-by (λ i. getD bs i 0) n
-number-of-reads [] zero e = omega arith
-number-of-reads [] (suc n) e = absurd (omega arith)
-number-of-reads (b ∷ bs) zero e = absurd (omega arith)
-number-of-reads (b ∷ bs) (suc n) e = ap (λ m. b + 256 * m) (number-of-reads bs n (omega arith))
+-- a list of a known length, one by one
+pub counted : (xs : List ℕ) (n : ℕ) → length xs ≡ n → xs ≡ map (λ i. getD xs i 0) (counting 0 n)
+counted xs n l = fill-by-all (λ i. getD xs i 0) xs n 0 l (λ _ _. refl)
 
 length-low-first : (w n : ℕ) → length (low-first w n) ≡ w
 length-low-first zero n = refl
@@ -121,7 +114,7 @@ module _ (forms : List (List ℕ)) where
   row-counted k vs f =
       let ws = getD forms k [] in
       let l : length vs ≡ length ws = ap length (sym (values-written ws vs (f .1))) ∙ length-values ws (written ws vs) in
-      ap (row k) (sym (fill-by-all (λ i. getD vs i 0) vs (length ws) 0 l (λ _ _. refl)))
+      ap (row k) (sym (counted vs (length ws) l))
 
   -- a known first byte begins a row, with no more bytes after it than its form has
   begins-row :
