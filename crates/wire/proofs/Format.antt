@@ -6,7 +6,7 @@ use native.Mathlib.Omega.{arith}
 use lib.ListN.{getD}
 use Rattle.std.specs.declared.result.Result.the-variants.{Ok, Err}
 use Rattle.codes.specs.Calls.{Call, was-told, back, left-over, could-be, advise, garbled, Answer, refused, number, two}
-use Rattle.wire.specs.Rows.{Reading, row, ceases, Fits, row-bytes, reading}
+use Rattle.wire.specs.Rows.{Reading, row, ceases, Fits, reading}
 use Rattle.wire.specs.Format.{call-forms, call-row, call-in, call-of, Call-fits, bytes-of}
 use Rattle.wire.specs.Format.{answer-forms, answer-row, answer-in, Answer-fits, answer-bytes}
 use Rattle.wire.specs.Laws.{Calls-read-back, Calls-written-back, Calls-differ, Calls-cease}

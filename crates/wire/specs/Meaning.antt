@@ -1,6 +1,6 @@
 -- What the types of the code stand for. Assumes nothing: these are definitions.
 use mathlib.Core.Path.{_≡_}
-use mathlib.Core.List.{List, [], _∷_, _++_, map}
+use mathlib.Core.List.{List, [], _++_, map}
 use Prim.Native.Nat.{ℕ, suc, _<_}
 use lib.Dec.{leb}
 use lib.ListN.{length, getD, drop}
