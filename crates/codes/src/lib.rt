@@ -1,9 +1,10 @@
-// The rule book of the game and of the desk: specs/Codes.antt, specs/Calls.antt and specs/Promise.antt, in this order.
-ghost use Rattle.codes.specs.Laws.{Turned-keeps};
+// Codes, their pegs, and what a guess is told. specs/Codes.antt, specs/Calls.antt and specs/Promise.antt are the rule book.
+mod feedback;
+mod game;
+pub mod laws;
 
-// A call that is turned away changes nothing.
-pub fn turned_keeps() -> u8
-    ensures { λ _. ⌜ Turned-keeps ⌝ }
-{
-    0
-}
+pub use feedback::Feedback;
+pub use game::Game;
+
+#[cfg(test)]
+mod tests;
