@@ -7,11 +7,12 @@ use lib.ListN.{length, take, drop}
 use Rattle.std.proofs.shelf.Lists.{append-nil, take-rest, length-drop, drop-drop, drop-all}
 use Rattle.std.specs.declared.result.Result.{Result}
 use Rattle.std.specs.declared.result.Result.the-variants.{Ok, Err}
-use Rattle.text.specs.Lines.{Line, skipped, row, ceases, front-byte, before, byte-then, bytes-from}
+use Rattle.text.specs.Lines.{Line, skipped, row, feedback, ceases, front-byte, before, byte-then, bytes-from}
 
 before-append : (bs cs : List ℕ) (l : Line) → before (bs ++ cs) l ≡ before bs (before cs l)
 before-append bs cs skipped = refl
 before-append bs cs (row ds) = ap row (append-assoc bs cs ds)
+before-append bs cs (feedback p c code guess) = refl
 before-append bs cs (ceases n) = refl
 
 bytes-more : (at : ℕ) (cs : List ℕ) → 0 < length cs → bytes-from at cs ≡ byte-then at (front-byte cs) (bytes-from (at + 3) (drop 3 cs))

@@ -1,4 +1,5 @@
-// Lines of text: what a line asks (specs/Lines.antt), and calls and refusals in words (specs/Words.antt).
+// Lines of text: what a line asks (specs/Lines.antt), and calls, feedback and refusals in words (specs/Words.antt).
+mod feedback;
 mod line;
 mod words;
 
@@ -7,6 +8,5 @@ pub use words::InWords;
 pub use words::InWordsDisplay;
 pub use words::Refused;
 pub use words::RefusedDisplay;
-
-#[cfg(test)]
-mod tests;
+pub use words::Told;
+pub use words::ToldDisplay;

@@ -4,21 +4,34 @@ ghost use Prim.Native.Nat.{_<_};
 ghost use lib.ListN.{getD, drop};
 ghost use Rattle.std.specs.Slices.{found};
 ghost use Rattle.std.specs.Vec.{made};
-ghost use Rattle.text.specs.Lines.{white, blank, comment, along, digit, front-byte, bytes-from, line-of};
+ghost use Rattle.text.specs.Fields.{digit};
+ghost use Rattle.text.specs.Lines.{white, blank, comment, along, front-byte, bytes-from, line-of};
 ghost use Rattle.text.specs.Meaning.{means};
+use crate::feedback::read_feedback;
 use std::alloc::AllocError;
 use std::alloc::Global;
 
-// Nothing, since the line is blank or a comment; a row of bytes; or neither, since it ceases to be such a line at a place.
-#[derive(Debug, PartialEq, Drop)]
+// Nothing, since the line is blank or a comment; a row of bytes; how many pegs and colours a game has, with a code and
+// a guess; or none of these, since it ceases to be such a line at a place.
+#[derive(Drop)]
 pub enum Line {
     Skipped,
     Row(Vec<u8>),
-    Unreadable { place: usize },
+    Feedback {
+        pegs: u8,
+        colours: u8,
+        code: Vec<u8>,
+        guess: Vec<u8>,
+    },
+    Unreadable {
+        place: usize,
+    },
 }
 
-// The word that a line of bytes begins with.
-const WORD: [u8; 5] = *b"bytes";
+// The words that a line of bytes and one of feedback begin with.
+const BYTES: [u8; 5] = *b"bytes";
+
+const FEEDBACK: [u8; 8] = *b"feedback";
 
 impl Line {
     // What a line asks, its line feed taken off.
@@ -28,11 +41,16 @@ impl Line {
         if is_blank(text) || is_comment(text) {
             return Ok(Line::Skipped);
         }
-        let place = common_prefix(&WORD, text);
-        if place != WORD.len() {
+        let bytes = common_prefix(&BYTES, text);
+        if bytes == BYTES.len() {
+            return read_bytes(heap, text, BYTES.len());
+        }
+        let feedback = common_prefix(&FEEDBACK, text);
+        if feedback != FEEDBACK.len() {
+            let place = bytes.max(feedback);
             return Ok(Line::Unreadable { place });
         }
-        read_bytes(heap, text, place)
+        read_feedback(heap, text, FEEDBACK.len())
     }
 }
 
@@ -113,7 +131,7 @@ fn character(text: &[u8], place: usize) -> u8
 }
 
 // The value of a hexadecimal digit.
-fn hex_digit(c: u8) -> Option<u8>
+pub(crate) fn hex_digit(c: u8) -> Option<u8>
     ensures value { λ r. ⌜ r ≡ digit c ⌝ }
     ensures bound { λ r. ⌜ found r (λ d. d < 16) ⌝ }
 {

@@ -1,7 +1,9 @@
-// Calls and refusals in words.
+// Calls, feedback and refusals in words.
 ghost use Rattle.std.specs.declared.option.Option.the-variants.{Some};
-ghost use Rattle.text.specs.Words.{in-words, refused-at};
+ghost use Rattle.codes.specs.Meaning.{as-told};
+ghost use Rattle.text.specs.Words.{in-words, right-and-near, refused-at};
 ghost use Rattle.wire.specs.Meaning.{asks};
+use codes::Feedback;
 use std::fmt;
 use wire::Call;
 
@@ -20,6 +22,19 @@ pub impl fmt::Display for InWords as InWordsDisplay {
             Call::CouldBe(code) => write!(f, "could {code}"),
             Call::Advise => write!(f, "advise"),
         }
+    }
+}
+
+// What a guess is told, as it is printed.
+#[derive(Clone, Copy)]
+pub struct Told(pub Feedback);
+
+pub impl fmt::Display for Told as ToldDisplay {
+    ghost shown = { λ t. Some (right-and-near (as-told (t .0))) };
+
+    fn fmt<W: fmt::Write>(&self, f: &mut fmt::Formatter<W>) -> fmt::Result {
+        let Feedback { right, near } = self.0;
+        write!(f, "{right} right {near} near")
     }
 }
 
