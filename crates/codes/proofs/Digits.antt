@@ -51,7 +51,7 @@ coloured-code (suc k) zero n h = absurd (omega arith)
 coloured-code (suc k) (suc c) n h = coloured-digits (suc k) (suc c) n (zero-lt-suc c)
 
 -- the pegs after the first are those of a code too
-pub div-below : (c p n : ℕ) → n < suc c * p → n / suc c < p
+div-below : (c p n : ℕ) → n < suc c * p → n / suc c < p
 div-below c p n h = div-lt-iff-lt-mul (zero-lt-suc c) .1 (rw mul-comm at h)
 
 pub number-digits : (k c n : ℕ) → n < power c k → number-of c (digits k c n) ≡ n
@@ -63,13 +63,13 @@ number-digits (suc k) (suc c) n h =
     ∙ mod-add-div n (suc c)
 
 -- the first peg of a number, and the number of the others
-pub mod-number : (c x n : ℕ) → x < c → (x + c * n) % c ≡ x
+mod-number : (c x n : ℕ) → x < c → (x + c * n) % c ≡ x
 mod-number c x n h = add-mul-mod-self-left x c n ∙ mod-eq-of-lt h
 
-pub div-number : (c x n : ℕ) → x < c → (x + c * n) / c ≡ n
+div-number : (c x n : ℕ) → x < c → (x + c * n) / c ≡ n
 div-number c x n h = omega (arith, add-mul-div-left x n {y = c} (omega arith), div-eq-of-lt h)
 
-pub digits-number : (c : ℕ) (xs : List ℕ) → coloured c xs ≡ true → digits (length xs) c (number-of c xs) ≡ xs
+digits-number : (c : ℕ) (xs : List ℕ) → coloured c xs ≡ true → digits (length xs) c (number-of c xs) ≡ xs
 unfolding digits number-of
 digits-number c [] h = refl
 digits-number zero (x ∷ xs) h = absurd (omega (arith, coloured-cons zero x xs h))

@@ -14,14 +14,14 @@ use Rattle.codes.specs.Pegs.{coloured}
 use Rattle.codes.specs.Promise.{Either-way, All-right}
 use Rattle.codes.proofs.Digits.{length-digits, number-digits, coloured-cons}
 
-pub at-place-sym : (xs ys : List ℕ) → at-place xs ys ≡ at-place ys xs
+at-place-sym : (xs ys : List ℕ) → at-place xs ys ≡ at-place ys xs
 unfolding at-place
 at-place-sym [] [] = refl
 at-place-sym [] (y ∷ ys) = refl
 at-place-sym (x ∷ xs) [] = refl
 at-place-sym (x ∷ xs) (y ∷ ys) = let ih = at-place-sym xs ys in grind (arith, tells)
 
-pub in-common-sym : (c : ℕ) (xs ys : List ℕ) → in-common c xs ys ≡ in-common c ys xs
+in-common-sym : (c : ℕ) (xs ys : List ℕ) → in-common c xs ys ≡ in-common c ys xs
 unfolding in-common
 in-common-sym zero xs ys = refl
 in-common-sym (suc c) xs ys = let ih = in-common-sym c xs ys in grind (arith, tells)
@@ -31,7 +31,7 @@ unfolding Either-way
 either-way g c q =
     cc (at-place-sym (pegs-of g c) (pegs-of g q), in-common-sym (g .colours) (pegs-of g c) (pegs-of g q))
 
-pub at-place-le : (xs ys : List ℕ) → at-place xs ys ≤ length xs
+at-place-le : (xs ys : List ℕ) → at-place xs ys ≤ length xs
 unfolding at-place
 at-place-le [] ys = omega arith
 at-place-le (x ∷ xs) [] = omega arith
@@ -59,7 +59,7 @@ within-pegs g c q =
     let common = in-common-le (g .colours) (pegs-of g c) (pegs-of g q) in
     omega (arith, length-digits (g .pegs) (g .colours) c)
 
-pub at-place-self : (xs : List ℕ) → at-place xs xs ≡ length xs
+at-place-self : (xs : List ℕ) → at-place xs xs ≡ length xs
 unfolding at-place
 at-place-self [] = refl
 at-place-self (x ∷ xs) = let ih = at-place-self xs in grind (arith, tells)
@@ -73,7 +73,7 @@ itself-right g c =
     cc
 
 -- rows that are alike at every place are the same
-pub same-from-at-place : (xs ys : List ℕ) → length xs ≡ length ys → at-place xs ys ≡ length xs → xs ≡ ys
+same-from-at-place : (xs ys : List ℕ) → length xs ≡ length ys → at-place xs ys ≡ length xs → xs ≡ ys
 unfolding at-place
 same-from-at-place [] [] l h = refl
 same-from-at-place [] (y ∷ ys) l h = absurd (omega arith)

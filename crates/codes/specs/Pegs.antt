@@ -1,4 +1,4 @@
--- Rows of pegs, and the codes that have them. Assumes nothing: these are definitions.
+-- Games by their numbers, rows of pegs, and the codes that have them. Assumes nothing: these are definitions.
 use mathlib.Core.Bool.{Bool, true, _&&_}
 use mathlib.Core.List.{List, [], _∷_}
 use Prim.Native.Nat.{ℕ, _+_, _*_}
