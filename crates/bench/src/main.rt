@@ -1,4 +1,6 @@
 // How long it takes to make a game's table. What does not vary from run to run goes to standard output, and seconds to standard error.
+#![tactic(auto)]
+
 ghost use Rattle.std.specs.Prelude.{◌≡◌};
 ghost use Rattle.bench.specs.Mixed.{all_mixed};
 

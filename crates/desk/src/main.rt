@@ -1,4 +1,6 @@
 // Answers lines, each as soon as it is read: those of the file that is named, or of standard input.
+#![tactic(auto)]
+
 mod replies;
 
 use anyhow::anyhow;

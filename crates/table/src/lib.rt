@@ -1,4 +1,6 @@
 // What each code is told of each guess, by number, in lent bytes.
+#![tactic(auto)]
+
 pub mod answers;
 mod game_table;
 pub mod laws;

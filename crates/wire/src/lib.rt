@@ -1,4 +1,6 @@
 // Calls and answers as enums, and their bytes. specs/Format.antt says which bytes are which.
+#![tactic(auto)]
+
 mod answer;
 mod call;
 pub mod laws;

@@ -25,6 +25,6 @@ loop-colour-init c = refl
 pub loop-colour-preserved : goal.loop-colour-preserved
 loop-colour-preserved c =
     let k = c.loop-colour.colour in
-    let a = c.tally-code-tally.ensures k (omega arith) in
-    let b = c.tally-guess-tally.ensures k (omega arith) in
+    let a = c.tally-code_tally.ensures k (omega arith) in
+    let b = c.tally-guess_tally.ensures k (omega arith) in
     cc (in-common-next k _ _ c.args.code.now c.args.guess.now a b)

@@ -23,15 +23,15 @@ in-common-common-requires c =
     }
 
 -- the rows that are compared are the pegs of the code and of the guess
-abbrev pegs : goal.After-in-common-common → ℕ → List ℕ
+abbrev pegs : goal.After-in_common-common → ℕ → List ℕ
 pegs c n = digits c.args.self.pegs c.args.self.colours n
 
-right : (c : goal.After-in-common-common) → c.at-place-right.result ≡ at_place (pegs c c.args.code) (pegs c c.args.guess)
+right : (c : goal.After-in_common-common) → c.at_place-right.result ≡ at_place (pegs c c.args.code) (pegs c c.args.guess)
 right c = cc
 
 common :
-    (c : goal.After-in-common-common) →
-    c.in-common-common.result ≡ in_common c.args.self.colours (pegs c c.args.code) (pegs c c.args.guess)
+    (c : goal.After-in_common-common) →
+    c.in_common-common.result ≡ in_common c.args.self.colours (pegs c c.args.code) (pegs c c.args.guess)
 common c = cc c.colours.ensures
 
 pub overflow-sub-result : goal.overflow-sub-result
