@@ -6,8 +6,8 @@ use Rattle.codes.proofs.feedback.tally.Goals as goal
 pub bounds-counts-peg : goal.bounds-counts-peg
 bounds-counts-peg c = colour_at _ _ _ c.requires.known c.loop-peg-test.true
 
-pub overflow-add-counts : goal.overflow-add-counts
-overflow-add-counts c =
+pub overflow_add-counts : goal.overflow_add-counts
+overflow_add-counts c =
     let low = colour_at _ _ _ c.requires.known c.loop-peg-test.true in
     let most = tally_lt _ _ _ c.loop-peg.invariant c.loop-peg-test.true low in
     search rules

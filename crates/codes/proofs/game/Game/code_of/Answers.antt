@@ -11,14 +11,14 @@ returns-then-row-i c =
     let at = c.loop-i.i - 1 in
     grind (arith, nat_tests, not_coloured c.args.self.colours c.args.row.now at (omega arith) (omega arith))
 
-pub overflow-mul-code : goal.overflow-mul-code
-overflow-mul-code c =
+pub overflow_mul-code : goal.overflow_mul-code
+overflow_mul-code c =
     let t = c.args.self.taken in
     let small = numbered_fits _ _ _ _ _ c.loop-i.invariant t.2 t.3 c.if-row-self.false t.4 in
     search rules
 
-pub overflow-add-code : goal.overflow-add-code
-overflow-add-code c =
+pub overflow_add-code : goal.overflow_add-code
+overflow_add-code c =
     let t = c.args.self.taken in
     let small = numbered_fits _ _ _ _ _ c.loop-i.invariant t.2 t.3 c.if-row-self.false t.4 in
     search rules

@@ -5,20 +5,20 @@ use Rattle.codes.proofs.Digits.{coloured_digits, coloured_more}
 use Rattle.codes.proofs.Told.{at_place_common}
 use Rattle.codes.proofs.game.Game.feedback.Goals as goal
 
-coloured-row :
+coloured_row :
     (k p c n : ℕ) (row : List ℕ) → k ≡ p → take p row ≡ digits p c n → 0 < c → c ≤ 16 → coloured 16 (take k row) ≡ true
-coloured-row k p c n row e is some few = rw (e, is) (coloured_more c 16 (digits p c n) few (coloured_digits p c n some))
+coloured_row k p c n row e is some few = rw (e, is) (coloured_more c 16 (digits p c n) few (coloured_digits p c n some))
 
-pub in-common-common-requires : goal.in-common-common-requires
-in-common-common-requires c =
+pub in_common-common-requires : goal.in_common-common-requires
+in_common-common-requires c =
     let t = c.args.self.taken in
     let few : c.pegs-pegs.result ≤ 8 = omega arith in
     record {
       few = omega arith;
       short = (simp length-take (omega arith), simp length-take (omega arith));
       known = (
-        coloured-row _ _ _ _ _ c.pegs-pegs.ensures c.pegs-of-code-row.ensures.pegs t.2 t.3,
-        coloured-row _ _ _ _ _ c.pegs-pegs.ensures c.pegs-of-guess-row.ensures.pegs t.2 t.3,
+        coloured_row _ _ _ _ _ c.pegs-pegs.ensures c.pegs_of-code_row.ensures.pegs t.2 t.3,
+        coloured_row _ _ _ _ _ c.pegs-pegs.ensures c.pegs_of-guess_row.ensures.pegs t.2 t.3,
       );
     }
 
@@ -34,8 +34,8 @@ common :
     c.in_common-common.result ≡ in_common c.args.self.colours (pegs c c.args.code) (pegs c c.args.guess)
 common c = cc c.colours.ensures
 
-pub overflow-sub-result : goal.overflow-sub-result
-overflow-sub-result c =
+pub overflow_sub-result : goal.overflow_sub-result
+overflow_sub-result c =
     let code = coloured_digits c.args.self.pegs c.args.self.colours c.args.code c.args.self.taken.2 in
     omega (arith, right c, common c, at_place_common c.args.self.colours _ (pegs c c.args.guess) code)
 
