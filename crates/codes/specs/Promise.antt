@@ -1,7 +1,7 @@
 -- What is promised of the desk and of guessing. Each is a statement, a type whose proof is owed. Assumes nothing.
-use Rattle.std.specs.Prelude.{◌≡◌, ℕ, zero, suc, ◌+◌, ◌-◌, ◌*◌, ◌<◌, ◌≤◌, Bool, true, false, not, ◌&&◌, ◌||◌, eqb, ltb, leb, ◌≢◌, ◌⊎◌, List, [], ◌∷◌, ◌++◌, length, get_or}
-use Rattle.codes.specs.Codes.{pick, Game, how_many, Told, told_of, left, enough, does, fewest, best}
-use Rattle.codes.specs.Calls.{Call, Answer, Asked, Limits, codes_left, among, turned, after, answer, answers}
+use Rattle.std.specs.Prelude.{◌≡◌, ℕ, suc, ◌-◌, ◌<◌, ◌≤◌, true, false, ◌≢◌, List, [], ◌∷◌, length}
+use Rattle.codes.specs.Codes.{Game, how_many, told_of, enough, does, fewest, best}
+use Rattle.codes.specs.Calls.{Call, Answer, Asked, Limits, codes_left, among, turned, after, answers}
 
 -- the games that are taken
 abbrev pub Taken : Game → Type 0

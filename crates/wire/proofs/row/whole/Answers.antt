@@ -12,18 +12,18 @@ begun :
 begun c forms e = let first = c.in-Some.ensures.item.3 in record { table = e; some = first.0; first = first.1 0 }
 
 known : (c : In-Some-get) → Known c.args.lengths.now c.in-Some.number.now c.in-Some-get.length.now
-known c = let l = c.in-Some-get.ensures.finds.3 in record { low = l.0; is = l.1 0 }
+known c = let l = c.in-Some-get.ensures.lookup.3 in record { low = l.0; is = l.1 0 }
 
-pub returns-in-default-get : goal.returns-in-default-get
-returns-in-default-get c =
-    let none = c.in-default-get.ensures.finds in
-    let at = goal.at.returns-in-default-get c in
+pub returns-in_default-get : goal.returns-in_default-get
+returns-in_default-get c =
+    let none = c.in_default-get.ensures.lookup in
+    let at = goal.at.returns-in_default-get c in
     record { same = tt; reads = λ forms e. no_form forms _ _ _ (begun at.In-Some forms e) (grind (arith, nat_tests)) }
 
-pub returns-in-default-exactly : goal.returns-in-default-exactly
-returns-in-default-exactly c =
-    let at = goal.at.returns-in-default-exactly c in
-    let apart = c.in-default-exactly.ensures in
+pub returns-in_default-exactly : goal.returns-in_default-exactly
+returns-in_default-exactly c =
+    let at = goal.at.returns-in_default-exactly c in
+    let apart = c.in_default-exactly.ensures in
     record {
       same = tt;
       reads = λ forms e. ap ceases c.min.ensures ∙ misfit forms _ _ _ _ (begun at.In-Some forms e) (known at.In-Some-get) apart;
