@@ -9,8 +9,8 @@ run_more :
     run base (drop n cs) ≡ pick (digit_below base (get_or cs n 0)) (suc (run base (drop (n + 1) cs))) 0
 run_more base cs n h = at_drop_more (run base) cs n 0 h
 
-pub returns-then-not-is-digit : goal.returns-then-not-is-digit
-returns-then-not-is-digit c =
+pub returns-then-not-is_digit : goal.returns-then-not-is_digit
+returns-then-not-is_digit c =
     record { count = grind (arith, run_more c.args.base _ _ c.loop-n-test.true); bound = omega arith }
 
 pub loop-n-preserved : goal.loop-n-preserved

@@ -5,10 +5,10 @@ use Rattle.text.specs.Fields.{value}
 use Rattle.text.proofs.feedback.row.Goals as goal
 
 pub loop-c-preserved : goal.loop-c-preserved
-loop-c-preserved c = c.in-ok-push.ensures.items ∙ cc (map_more value _ _ 0 c.loop-c-test.true)
+loop-c-preserved c = c.in_ok-push.ensures.items ∙ cc (map_more value _ _ 0 c.loop-c-test.true)
 
-pub returns-in-err-push : goal.returns-in-err-push
-returns-in-err-push c = IfOk-from_err _ _ c.from-residual.ensures.0
+pub returns-in_err-push : goal.returns-in_err-push
+returns-in_err-push c = IfOk-from_err _ _ c.from_residual.ensures.0
 
 pub returns : goal.returns
 returns c = cc (take_all _ _ c.loop-c-test.false)

@@ -12,7 +12,7 @@ returns-in-Err c = so_far_ceases _ _ _ _ _ c.loop-at.invariant c.loop-at-test.tr
 pub loop-at-preserved : goal.loop-at-preserved
 loop-at-preserved c =
     so_far_more c.args.text.now c.args.start _ _ c.loop-at.at _ c.loop-at.invariant c.loop-at-test.true
-    c.in-Ok.ensures c.in-ok-push.ensures.items
+    c.in-Ok.ensures c.in_ok-push-in-Ok.ensures.items
 
 pub returns : goal.returns
 returns c = so_far_all _ _ _ _ c.loop-at.invariant c.loop-at-test.false
