@@ -6,6 +6,7 @@ mod replies;
 use anyhow::anyhow;
 use replies::reply_to;
 use std::io::{BufRead, BufReader};
+use std::process::ExitCode;
 use std::{env, fs};
 
 fn answer_lines<R: BufRead + Drop>(rt: &HostRuntime, mut input: R) -> anyhow::Result<()> {
@@ -39,10 +40,10 @@ fn run(rt: &HostRuntime) -> anyhow::Result<()> {
     }
 }
 
-fn main(rt: HostRuntime) -> anyhow::Result<()> {
-    let outcome = run(&rt);
-    if let Err(error) = &outcome {
-        eprintln!(rt; "desk: {error}")?;
-    }
-    outcome
+fn main(rt: HostRuntime) -> anyhow::Result<ExitCode> {
+    let Err(error) = run(&rt) else {
+        return Ok(ExitCode::SUCCESS);
+    };
+    eprintln!(rt; "desk: {error}")?;
+    Ok(ExitCode::FAILURE)
 }
