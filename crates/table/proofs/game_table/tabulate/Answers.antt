@@ -11,15 +11,15 @@ pub loop-guess-init : goal.loop-guess-init
 unfolding all_codes
 loop-guess-init c = rw zero-mul
 
-pub slice-bounds-write-row-end : goal.slice-bounds-write-row-end
-slice-bounds-write-row-end c =
+pub slice_bounds-write_row-end : goal.slice_bounds-write_row-end
+slice_bounds-write_row-end c =
     omega (arith, row_within c.loop-guess.guess c.of-shape.result.codes c.of-shape.result.guesses (omega arith))
 
 pub loop-guess-preserved : goal.loop-guess-preserved
 loop-guess-preserved c =
     let g = as_game c.args.game in
     let codes = ap (λ s. s.codes) c.of-shape.ensures in
-    rows_more (row_of g) _ (λ q. length_row_of g q ∙ sym codes) _ _ _ _ _ c.loop-guess.invariant c.write-row.ensures (omega arith)
+    rows_more (row_of g) _ (λ q. length_row_of g q ∙ sym codes) _ _ _ _ _ c.loop-guess.invariant c.write_row.ensures (omega arith)
 
 pub returns : goal.returns
 returns c =
