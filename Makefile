@@ -5,9 +5,9 @@
 run:
 	@mkdir -p target
 	@echo 'Proving and building desk: a minute or two the first time.' >&2
-	@rt check desk >target/run.log 2>&1 || { cat target/run.log; exit 1; }
-	@target/bin/desk examples/feedback.txt
-	@target/bin/desk examples/rows.txt
+	@cd crates/desk && rt run >../../target/run.log 2>&1 || { cat ../../target/run.log; exit 1; }
+	@crates/desk/out/desk examples/feedback.txt
+	@crates/desk/out/desk examples/rows.txt
 
 test:
 	@.ci/run
