@@ -43,7 +43,8 @@ answer_row (two m n) = row 2 (m ∷ (n ∷ []))
 
 abbrev pub answer_in : Reading → Result Answer ℕ
 answer_in (row k vs) =
-    Ok (pick (k == 0) (refused (slice_index vs 0) (slice_index vs 1)) (pick (k == 1) (number (slice_index vs 0)) (two (slice_index vs 0) (slice_index vs 1))))
+    Ok (pick (k == 0) (refused (slice_index vs 0) (slice_index vs 1))
+    (pick (k == 1) (number (slice_index vs 0)) (two (slice_index vs 0) (slice_index vs 1))))
 answer_in (ceases n) = Err n
 
 -- bytes as an answer, or the place where they cease to be one
