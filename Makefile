@@ -5,7 +5,7 @@
 run:
 	@mkdir -p target
 	@echo 'Proving and building desk: a minute or two the first time.' >&2
-	@cd crates/desk && rt run >../../target/run.log 2>&1 || { cat ../../target/run.log; exit 1; }
+	@cd crates/desk && rt run </dev/null >../../target/run.log 2>&1 || { cat ../../target/run.log; exit 1; }
 	@crates/desk/out/desk examples/feedback.txt
 	@crates/desk/out/desk examples/rows.txt
 
