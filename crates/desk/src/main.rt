@@ -9,7 +9,7 @@ use std::io::{BufRead, BufReader};
 use std::process::ExitCode;
 use std::{env, fs};
 
-fn answer_lines<R: BufRead + Drop>(rt: &HostRuntime, mut input: R) -> anyhow::Result<()> {
+fn answer_lines<R: BufRead + Drop>(rt: &HostRuntime, mut input: R) -> anyhow::Result<ExitCode> {
     let heap = rt.alloc();
     let mut line = Vec::new(heap);
     for _ in 0..u64::MAX {
@@ -21,17 +21,21 @@ fn answer_lines<R: BufRead + Drop>(rt: &HostRuntime, mut input: R) -> anyhow::Re
             rt.println(reply)?;
         }
     }
-    Ok(())
+    Ok(ExitCode::SUCCESS)
 }
 
-fn answer_file(rt: &HostRuntime, path: &str) -> anyhow::Result<()> {
+// An error that is printed here and not handed on is printed whole: `anyhow::Error` would cut a long path, and the reason with it.
+fn answer_file(rt: &HostRuntime, path: &str) -> anyhow::Result<ExitCode> {
     match fs::open(rt, path) {
         Ok(file) => answer_lines(rt, BufReader::new(rt.alloc(), file)?),
-        Err(error) => Err(anyhow!(format!(in rt.alloc(); "{path}: {error}")?)),
+        Err(error) => {
+            eprintln!(rt; "desk: {path}: {error}")?;
+            Ok(ExitCode::FAILURE)
+        }
     }
 }
 
-fn run(rt: &HostRuntime) -> anyhow::Result<()> {
+fn run(rt: &HostRuntime) -> anyhow::Result<ExitCode> {
     let mut words = env::args(rt)?.skip(1);
     match (words.next(), words.next()) {
         (None, _) => answer_lines(rt, BufReader::new(rt.alloc(), rt.stdin())?),
@@ -41,9 +45,11 @@ fn run(rt: &HostRuntime) -> anyhow::Result<()> {
 }
 
 fn main(rt: HostRuntime) -> anyhow::Result<ExitCode> {
-    let Err(error) = run(&rt) else {
-        return Ok(ExitCode::SUCCESS);
-    };
-    eprintln!(rt; "desk: {error}")?;
-    Ok(ExitCode::FAILURE)
+    match run(&rt) {
+        Err(error) => {
+            eprintln!(rt; "desk: {error}")?;
+            Ok(ExitCode::FAILURE)
+        }
+        status => status,
+    }
 }
