@@ -1,6 +1,8 @@
 -- What two rows of pegs have alike, at the same place and at any place. Assumes nothing.
-use Rattle.std.proofs.Common.{◌≡◌, ℕ, zero, suc, ◌+◌, ◌-◌, ◌≤◌, true, ◌&&◌, eqb, ltb, ◌⊎◌, List, [], ◌∷◌, length, refl, ap, inl, inr, arith}
+use Rattle.std.proofs.Common.{◌≡◌, ℕ, zero, suc, ◌+◌, ◌-◌, ◌≤◌, Bool, true, false, cond, ◌&&◌, eqb, ltb, ◌⊎◌, List, [], ◌∷◌, length, refl, ap, ap₂, ◌∙◌, inl, inr, arith}
+use Rattle.std.proofs.lemmas.List.Sums.{sum_by-cons}
 use Rattle.std.proofs.lemmas.Bool.Decides.{eqb_tells, nat_tests}
+use Rattle.std.specs.List.{count_by, zip}
 use Rattle.codes.specs.Codes.{pick, pegs_of, at_place, of_colour, in_common}
 use Rattle.codes.specs.Laws.{WithinPegs, ItselfRight, NeverOneNear}
 use Rattle.codes.specs.Pegs.{coloured}
@@ -24,7 +26,7 @@ unfolding EitherWay
 either_way g c q =
     cc (at_place_sym (pegs_of g c) (pegs_of g q), in_common_sym g.colours (pegs_of g c) (pegs_of g q))
 
-at_place_le : (xs ys : List ℕ) → at_place xs ys ≤ length xs
+pub at_place_le : (xs ys : List ℕ) → at_place xs ys ≤ length xs
 unfolding at_place
 at_place_le [] ys = omega arith
 at_place_le (x ∷ xs) [] = omega arith
@@ -138,3 +140,16 @@ never_one_near g c q h =
     let lc = length_of c in let lq = length_of q in
     let within = within_pegs g c q in
     omega (arith, none_near g.colours (pegs_of g c) (pegs_of g q) (omega arith) (omega arith))
+
+cond_pick : {A : Type 0} (b : Bool) (x y : A) → cond b x y ≡ pick b x y
+cond_pick true x y = refl
+cond_pick false x y = refl
+
+-- rows go along where their pairs of pegs are alike
+pub at_place_count : (xs ys : List ℕ) → count_by (λ p. eqb p.0 p.1) (zip xs ys) ≡ at_place xs ys
+unfolding at_place
+at_place_count [] ys = refl
+at_place_count (x ∷ xs) [] = refl
+at_place_count (x ∷ xs) (y ∷ ys) =
+    let more = sum_by-cons (λ p. cond (eqb p.0 p.1) 1 0) (x, y) (zip xs ys) in
+    more ∙ ap₂ (λ m n. m + n) (cond_pick (eqb x y) 1 0) (at_place_count xs ys)

@@ -1,10 +1,11 @@
 // What a guess is told of a code.
-ghost use Rattle.std.specs.Prelude.{◌≡◌, ℕ, ◌+◌, ◌<◌, ◌≤◌, true, length, ◌==◌, nat_le, slice_index};
-ghost use Rattle.codes.specs.Codes.{at_place, of_colour, in_common, told_of};
-ghost use Rattle.codes.specs.Meaning.{as_game, as_told};
+ghost use Rattle.std.specs.Prelude.{◌≡◌, ℕ, ◌+◌, ◌<◌, ◌≤◌, min, true, map, length, sum, count_by, ◌==◌, nat_le, slice_index};
+ghost use Rattle.std.specs.List.{zip};
+ghost use Rattle.codes.specs.Codes.{of_colour, in_common, told_of};
 ghost use Rattle.codes.specs.Pegs.{coloured};
 
 use crate::game::Game;
+use std::marker::Model;
 
 // How many pegs are right, of the code's colour at their place, and how many more are near, of a colour that it has elsewhere.
 #[derive(Clone, Copy, PartialEq, Debug)]
@@ -13,15 +14,26 @@ pub struct Feedback {
     pub near: u8,
 }
 
+// A contract sees what the rule book says is told.
+impl Model for Feedback {
+    ghost use Rattle.codes.specs.Codes.{Told};
+
+    ghost Value = { Told };
+
+    ghost view = { λ f. record { right = f.right; near = f.near } };
+
+    ghost inverse = { λ t. record { right = t.right; near = t.near } };
+}
+
 impl Game {
     // What a guess is told of a code.
     pub fn feedback(self, code: u16, guess: u16) -> Feedback
-        ensures { as_told result ≡ told_of (as_game self) code guess }
+        ensures { result ≡ told_of self code guess }
     {
         let pegs = self.pegs() as usize;
         let code_row = self.pegs_of(code);
         let guess_row = self.pegs_of(guess);
-        let right = at_place(&code_row[..pegs], &guess_row[..pegs]);
+        let right = at_place(&code_row[..pegs], &guess_row[..pegs]) as u8;
         let common = in_common(self.colours(), &code_row[..pegs], &guess_row[..pegs]);
         Feedback {
             right,
@@ -31,32 +43,43 @@ impl Game {
 
     // Whether feedback says that all pegs are right.
     pub fn is_all_right(self, feedback: Feedback) -> bool
-        ensures { result ≡ ((as_told feedback).right == (as_game self).pegs) }
+        ensures { result ≡ (feedback.right == self.pegs) }
     {
         feedback.right == self.pegs()
     }
 
     // Whether feedback is of no more pegs than the game has.
     pub fn allows(self, feedback: Feedback) -> bool
-        ensures { result ≡ nat_le ((as_told feedback).right + (as_told feedback).near) (as_game self).pegs }
+        ensures { result ≡ nat_le (feedback.right + feedback.near) self.pegs }
     {
         feedback.right as u16 + feedback.near as u16 <= self.pegs() as u16
     }
 }
 
 // How many pegs of two rows are the same at the same place.
-fn at_place(code: &[u8], guess: &[u8]) -> u8
-    requires lengths { length code.now ≡ length guess.now }
-    requires short { length code.now ≤ 8 }
-    ensures { result ≡ at_place code.now guess.now }
+fn at_place(code: &[u8], guess: &[u8]) -> usize
+    ensures { result ≡ count_by (λ p. p.0 == p.1) (zip code.now guess.now) }
 {
-    let mut right = 0;
-    for i in 0..code.len() {
-        if code[i] == guess[i] {
-            right += 1;
-        }
-    }
-    right
+    code.iter().zip(guess).filter(|(a, b)| **a == **b).count()
+}
+
+// How many pegs two rows have in common, at whatever places.
+fn in_common(colours: u8, code: &[u8], guess: &[u8]) -> u8
+    requires few { colours ≤ 16 }
+    requires short { (length code.now ≤ 8) × (length guess.now ≤ 8) }
+    requires known { (coloured 16 code.now ≡ true) × (coloured 16 guess.now ≡ true) }
+    ensures { result ≡ in_common colours code.now guess.now }
+{
+    let colours = colours as usize;
+    sum_of_lesser(&tally(code)[..colours], &tally(guess)[..colours])
+}
+
+// The sum of the smaller of both numbers at each place.
+fn sum_of_lesser(a: &[u8], b: &[u8]) -> u8
+    requires { sum (map (λ p. min p.0 p.1) (zip a.now b.now)) < 256 }
+    ensures { result ≡ sum (map (λ p. min p.0 p.1) (zip a.now b.now)) }
+{
+    a.iter().zip(b).map(|(x, y)| *x.min(y)).sum()
 }
 
 // How many pegs of a row are of each colour.
@@ -70,20 +93,4 @@ fn tally(row: &[u8]) -> [u8; 16]
         counts[*peg as usize] += 1;
     }
     counts
-}
-
-// How many pegs two rows have in common, at whatever places: of each colour the smaller of both numbers.
-fn in_common(colours: u8, code: &[u8], guess: &[u8]) -> u8
-    requires few { colours ≤ 16 }
-    requires short { (length code.now ≤ 8) × (length guess.now ≤ 8) }
-    requires known { (coloured 16 code.now ≡ true) × (coloured 16 guess.now ≡ true) }
-    ensures { result ≡ in_common colours code.now guess.now }
-{
-    let code_tally = tally(code);
-    let guess_tally = tally(guess);
-    let mut common = 0;
-    for colour in 0..colours as usize {
-        common += code_tally[colour].min(guess_tally[colour]);
-    }
-    common
 }

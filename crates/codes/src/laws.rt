@@ -3,57 +3,41 @@ ghost use Rattle.codes.specs.Laws.{CodeOfPegs, PegsOfCode, WithinPegs, ItselfRig
 ghost use Rattle.codes.specs.Promise.{EitherWay, AllRight};
 
 // The code of a code's pegs is that code.
-pub fn code_of_pegs() -> u8
+pub fn code_of_pegs()
     ensures { CodeOfPegs }
-{
-    0
-}
+{}
 
 // A row of pegs that has a code is the row of that code's pegs.
-pub fn pegs_of_code() -> u8
+pub fn pegs_of_code()
     ensures { PegsOfCode }
-{
-    0
-}
+{}
 
 // What is told of two codes is the same either way round.
-pub fn either_way() -> u8
+pub fn either_way()
     ensures { EitherWay }
-{
-    0
-}
+{}
 
 // All right is told of the code itself only.
-pub fn all_right() -> u8
+pub fn all_right()
     ensures { AllRight }
-{
-    0
-}
+{}
 
 // A code is told all right of itself.
-pub fn itself_right() -> u8
+pub fn itself_right()
     ensures { ItselfRight }
-{
-    0
-}
+{}
 
 // Right and near together are at most the pegs.
-pub fn within_pegs() -> u8
+pub fn within_pegs()
     ensures { WithinPegs }
-{
-    0
-}
+{}
 
 // All pegs but one right, and that one near, is never told.
-pub fn never_one_near() -> u8
+pub fn never_one_near()
     ensures { NeverOneNear }
-{
-    0
-}
+{}
 
 // A call that is turned away changes nothing.
-pub fn turned_keeps() -> u8
+pub fn turned_keeps()
     ensures { TurnedKeeps }
-{
-    0
-}
+{}

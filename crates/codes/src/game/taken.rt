@@ -1,8 +1,7 @@
 // Which games are taken, and what they have.
 ghost use Rattle.std.specs.Prelude.{◌≡◌, ◌^◌, ◌<◌, Some, None, MatchOption};
-ghost use Rattle.std.specs.Option.{SomeIff, option_map};
+ghost use Rattle.std.specs.Option.{SomeIff};
 ghost use Rattle.codes.specs.Codes.{pick, power, how_many};
-ghost use Rattle.codes.specs.Meaning.{as_game};
 ghost use Rattle.codes.specs.Pegs.{game_of, is_taken};
 ghost use Rattle.codes.specs.Promise.{Taken};
 
@@ -11,7 +10,7 @@ use crate::game::Game;
 impl Game {
     // The game of so many pegs and colours, if it is taken.
     pub fn new(pegs: u8, colours: u8) -> Option<Game>
-        ensures made { option_map as_game result ≡ pick (is_taken (game_of pegs colours)) (Some (game_of pegs colours)) None }
+        ensures made { result ≡ pick (is_taken (game_of pegs colours)) (Some (game_of pegs colours)) None }
         ensures exactly { MatchOption result (Taken (game_of pegs colours) → ⊥) (λ _. Taken (game_of pegs colours)) }
     {
         let Some(codes) = count_codes(pegs, colours) else {
@@ -28,19 +27,20 @@ impl Game {
     }
 
     pub fn pegs(self) -> u8
-        ensures { result ≡ (as_game self).pegs }
+        ensures value { result ≡ self.pegs }
+        ensures taken { Taken self }
     {
         self.pegs
     }
 
     pub fn colours(self) -> u8
-        ensures { result ≡ (as_game self).colours }
+        ensures { result ≡ self.colours }
     {
         self.colours
     }
 
     pub fn codes(self) -> u16
-        ensures { result ≡ how_many (as_game self) }
+        ensures { result ≡ how_many self }
     {
         self.codes
     }

@@ -1,27 +1,31 @@
-use Rattle.std.proofs.Common.{◌-◌, arith, rules}
+use Rattle.std.proofs.Common.{arith, rules}
 use Rattle.std.proofs.lemmas.Bool.Decides.{nat_tests}
-use Rattle.codes.proofs.Rows.{numbered_none, numbered_more, numbered_fits, not_coloured}
+use Rattle.codes.proofs.Rows.{numbered_none, numbered_more, numbered_fits, numbered_all, not_coloured}
 use Rattle.codes.proofs.game.Game.code_of.Goals as goal
 
-pub loop-i-init : goal.loop-i-init
-loop-i-init c = numbered_none _ _
+pub loop-peg-init : goal.loop-peg-init
+loop-peg-init c =
+    rw (c.into_iter-peg-iterator.ensures.into_iter_gives, c.rev-peg-items.ensures.source, c.iter.ensures.rest) (numbered_none _ _)
 
-pub returns-then-row-i : goal.returns-then-row-i
-returns-then-row-i c =
-    let at = c.loop-i.i - 1 in
-    grind (arith, nat_tests, not_coloured c.args.self.colours c.args.row.now at (omega arith) (omega arith))
+pub returns-then-peg-colours : goal.returns-then-peg-colours
+returns-then-peg-colours c =
+    let no = not_coloured _ _ _ _ _ _ c.loop-peg.invariant c.in-Some.ensures.steps c.if-peg-colours.true in
+    grind (arith, nat_tests, c.colours-colours.ensures)
 
 pub overflow_mul-code : goal.overflow_mul-code
 overflow_mul-code c =
-    let t = c.args.self.taken in
-    let small = numbered_fits _ _ _ _ _ c.loop-i.invariant t.2 t.3 c.if-row-self.false t.4 in
+    let small = numbered_fits _ _ c.args.self _ _ c.pegs.ensures.taken c.colours-colours.ensures (omega arith) c.loop-peg.invariant in
     search rules
 
 pub overflow_add-code : goal.overflow_add-code
 overflow_add-code c =
-    let t = c.args.self.taken in
-    let small = numbered_fits _ _ _ _ _ c.loop-i.invariant t.2 t.3 c.if-row-self.false t.4 in
+    let small = numbered_fits _ _ c.args.self _ _ c.pegs.ensures.taken c.colours-colours.ensures (omega arith) c.loop-peg.invariant in
     search rules
 
-pub loop-i-preserved : goal.loop-i-preserved
-loop-i-preserved c = numbered_more _ _ _ _ c.loop-i.invariant c.loop-i-test.true c.loop-i.auto.i (omega arith)
+pub loop-peg-preserved : goal.loop-peg-preserved
+loop-peg-preserved c = numbered_more _ _ _ _ _ _ c.loop-peg.invariant c.in-Some.ensures.steps c.if-peg-colours.false
+
+pub returns : goal.returns
+returns c =
+    let all = numbered_all _ _ _ _ c.loop-peg.invariant c.in-None.ensures.steps.0 in
+    grind (arith, nat_tests, c.colours-colours.ensures)

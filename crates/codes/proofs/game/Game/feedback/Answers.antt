@@ -1,43 +1,55 @@
-use Rattle.std.proofs.Common.{◌≡◌, ℕ, ◌-◌, ◌<◌, ◌≤◌, true, List, take, ap₂, arith, length-take}
-use Rattle.codes.specs.Codes.{digits, at_place, in_common}
+use Rattle.std.proofs.Common.{◌≡◌, ℕ, ◌-◌, ◌<◌, ◌≤◌, true, eqb, List, take, ap₂, ◌∙◌, arith, rules, length-take}
+use Rattle.std.specs.List.{count_by, zip}
+use Rattle.codes.specs.Codes.{Game, digits, pegs_of, at_place, in_common}
 use Rattle.codes.specs.Pegs.{coloured}
-use Rattle.codes.proofs.Digits.{coloured_digits, coloured_more}
-use Rattle.codes.proofs.Told.{at_place_common}
+use Rattle.codes.proofs.Digits.{length_digits, coloured_digits, coloured_more}
+use Rattle.codes.proofs.Told.{at_place_count, at_place_le, at_place_common}
 use Rattle.codes.proofs.game.Game.feedback.Goals as goal
 
 coloured_row :
     (k p c n : ℕ) (row : List ℕ) → k ≡ p → take p row ≡ digits p c n → 0 < c → c ≤ 16 → coloured 16 (take k row) ≡ true
 coloured_row k p c n row e is some few = rw (e, is) (coloured_more c 16 (digits p c n) few (coloured_digits p c n some))
 
+-- as many are right as the rules say, by the pegs of both codes
+right :
+    (g : Game) (code guess p m : ℕ) (xs ys : List ℕ) → p ≡ g.pegs → take g.pegs xs ≡ pegs_of g code → take g.pegs ys ≡ pegs_of g guess →
+    m ≡ count_by (λ p. eqb p.0 p.1) (zip (take p xs) (take p ys)) → m ≡ at_place (pegs_of g code) (pegs_of g guess)
+right g code guess p m xs ys e x y is =
+    is ∙ at_place_count (take p xs) (take p ys) ∙ rw e (ap₂ at_place x y)
+
+pub overflow_cast-right : goal.overflow_cast-right
+overflow_cast-right c =
+    let g = c.args.self in
+    let e = right g _ _ _ _ _ _ c.pegs-pegs.ensures.value c.pegs_of-code_row.ensures.pegs c.pegs_of-guess_row.ensures.pegs c.at_place-right.ensures in
+    let t = c.pegs-pegs.ensures.taken in
+    let most = at_place_le (pegs_of g c.args.code) (pegs_of g c.args.guess) in
+    let l = length_digits g.pegs g.colours c.args.code in
+    search rules
+
 pub in_common-common-requires : goal.in_common-common-requires
 in_common-common-requires c =
-    let t = c.args.self.taken in
-    let few : c.pegs-pegs.result ≤ 8 = omega arith in
+    let t = c.pegs-pegs.ensures.taken in
     record {
       few = omega arith;
       short = (simp length-take (omega arith), simp length-take (omega arith));
       known = (
-        coloured_row _ _ _ _ _ c.pegs-pegs.ensures c.pegs_of-code_row.ensures.pegs t.2 t.3,
-        coloured_row _ _ _ _ _ c.pegs-pegs.ensures c.pegs_of-guess_row.ensures.pegs t.2 t.3,
+        coloured_row _ _ _ _ _ c.pegs-pegs.ensures.value c.pegs_of-code_row.ensures.pegs t.2 t.3,
+        coloured_row _ _ _ _ _ c.pegs-pegs.ensures.value c.pegs_of-guess_row.ensures.pegs t.2 t.3,
       );
     }
 
--- the rows that are compared are the pegs of the code and of the guess
-abbrev pegs : goal.After-in_common-common → ℕ → List ℕ
-pegs c n = digits c.args.self.pegs c.args.self.colours n
-
-right : (c : goal.After-in_common-common) → c.at_place-right.result ≡ at_place (pegs c c.args.code) (pegs c c.args.guess)
-right c = cc
-
-common :
-    (c : goal.After-in_common-common) →
-    c.in_common-common.result ≡ in_common c.args.self.colours (pegs c c.args.code) (pegs c c.args.guess)
-common c = cc c.colours.ensures
-
 pub overflow_sub-result : goal.overflow_sub-result
 overflow_sub-result c =
-    let code = coloured_digits c.args.self.pegs c.args.self.colours c.args.code c.args.self.taken.2 in
-    omega (arith, right c, common c, at_place_common c.args.self.colours _ (pegs c c.args.guess) code)
+    let g = c.args.self in
+    let e = right g _ _ _ _ _ _ c.pegs-pegs.ensures.value c.pegs_of-code_row.ensures.pegs c.pegs_of-guess_row.ensures.pegs c.at_place-right.ensures in
+    let known = coloured_digits g.pegs g.colours c.args.code c.pegs-pegs.ensures.taken.2 in
+    let least = at_place_common g.colours _ (pegs_of g c.args.guess) known in
+    let common : c.in_common-common.result ≡ in_common g.colours (pegs_of g c.args.code) (pegs_of g c.args.guess) = cc c.colours.ensures in
+    omega arith
 
 pub returns : goal.returns
-returns c = ap₂ (λ r n. record { right = r; near = n - r }) (right c) (common c)
+returns c =
+    let g = c.args.self in
+    ap₂ (λ r n. record { right = r; near = n - r })
+    (right g _ _ _ _ _ _ c.pegs-pegs.ensures.value c.pegs_of-code_row.ensures.pegs c.pegs_of-guess_row.ensures.pegs c.at_place-right.ensures)
+    (cc c.colours.ensures)

@@ -1,10 +1,15 @@
 use Rattle.std.proofs.Common.{arith}
-use Rattle.codes.proofs.Rows.{written_more, written_all}
+use Rattle.codes.proofs.Rows.{written_more, written_row}
 use Rattle.codes.proofs.game.Game.pegs_of.Goals as goal
 
-pub loop-i-preserved : goal.loop-i-preserved
-loop-i-preserved c =
-    written_more _ _ _ _ _ _ c.loop-i.invariant c.loop-i-test.true c.args.self.taken.1 c.args.self.taken.2
+pub loop-peg-preserved : goal.loop-peg-preserved
+loop-peg-preserved c = written_more _ _ _ _ _ c.loop-peg.invariant (omega arith) (omega arith)
 
 pub returns : goal.returns
-returns c = let w = written_all _ _ _ _ _ _ c.loop-i.invariant (omega arith) in record { pegs = w.0; rest = w.1 }
+returns c =
+    let at = c.loop-peg-test.false in
+    let row =
+    written_row _ _ c.args.self _ _ _ _ c.loop-peg.invariant at c.loop-peg.auto.peg-items c.colours-colours.ensures c.pegs.ensures.value
+    (omega arith)
+    in
+    record { pegs = row.0; rest = row.1 }

@@ -1,5 +1,5 @@
 use Rattle.codes.proofs.Rows.{Written}
 use Rattle.codes.proofs.game.Game.pegs_of.Given as goal
 
-abbrev pub invariant-loop-i : goal.invariant-loop-i
-invariant-loop-i l = Written l.i-end l.colours l.code l.i l.rest l.row
+abbrev pub invariant-loop-peg : goal.invariant-loop-peg
+invariant-loop-peg l = Written l.colours l.code l.peg-index l.rest l.peg-items
