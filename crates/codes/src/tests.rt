@@ -4,10 +4,7 @@ use std::process::Abort;
 use std::test::Fail;
 
 fn taken(pegs: u8, colours: u8) -> Result<Game, Fail> {
-    match Game::new(pegs, colours) {
-        Some(game) => Ok(game),
-        None => Err(Fail::new("not taken")),
-    }
+    Game::new(pegs, colours).ok_or(Fail::new("not taken"))
 }
 
 fn refused(rt: &impl Abort, pegs: u8, colours: u8) {
@@ -122,13 +119,10 @@ const TWO_PEGS_OF_THREE: [[u16; 9]; 9] = [
 #[test]
 fn all_pairs_of_two_pegs_of_three_colours(rt: HostRuntime) -> Result<(), Fail> {
     let game = taken(2, 3)?;
-    for guess in 0..9 {
-        for code in 0..9 {
+    for (guess, row) in TWO_PEGS_OF_THREE.iter().enumerate() {
+        for (code, expected) in row.iter().enumerate() {
             let told = game.feedback(code as u16, guess as u16);
-            assert_eq!(rt;
-                10 * told.right as u16 + told.near as u16,
-                TWO_PEGS_OF_THREE[guess][code]
-            );
+            assert_eq!(rt; 10 * told.right as u16 + told.near as u16, *expected);
             assert_eq!(rt; game.is_all_right(told), code == guess);
         }
     }
