@@ -4,7 +4,7 @@ use std::process::Abort;
 use std::test::Fail;
 
 fn taken(pegs: u8, colours: u8) -> Result<Game, Fail> {
-    Game::new(pegs, colours).ok_or(Fail::new("not taken"))
+    Game::new(pegs, colours).ok_or_else(|| Fail::new("not taken"))
 }
 
 fn refused(rt: &impl Abort, pegs: u8, colours: u8) {
