@@ -2,21 +2,20 @@
 ghost use Rattle.std.specs.Prelude.{◌≡◌, ◌+◌, ◌<◌, ◌≤◌, length};
 ghost use Rattle.std.specs.Option.{option_map};
 ghost use Rattle.std.specs.List.{slice_get};
-ghost use Rattle.codes.specs.Meaning.{as_game, as_told};
 ghost use Rattle.table.specs.Answers.{answers, answer_number, Allowed, numbered, all_right, fewer_right};
 
 use codes::{Feedback, Game};
 
 // How many ways of being told a game has.
 pub fn count(game: Game) -> u8
-    ensures { result ≡ length (answers (as_game game)) }
+    ensures { result ≡ length (answers game) }
 {
     first_with(game.pegs(), game.pegs() + 1)
 }
 
 // The number of all right.
 pub fn all_right(game: Game) -> u8
-    ensures { result ≡ answer_number (as_game game) (all_right (as_game game)) }
+    ensures { result ≡ answer_number game (all_right game) }
 {
     place(
         game,
@@ -29,7 +28,7 @@ pub fn all_right(game: Game) -> u8
 
 // The number of feedback; none where it is of more pegs than the game has.
 pub fn number(game: Game, feedback: Feedback) -> Option<u8>
-    ensures { result ≡ numbered (as_game game) (as_told feedback) }
+    ensures { result ≡ numbered game feedback }
 {
     if game.allows(feedback) {
         Some(place(game, feedback))
@@ -40,19 +39,19 @@ pub fn number(game: Game, feedback: Feedback) -> Option<u8>
 
 // The number of feedback that the game allows.
 pub(crate) fn place(game: Game, feedback: Feedback) -> u8
-    requires { Allowed (as_game game) (as_told feedback) }
-    ensures { result ≡ answer_number (as_game game) (as_told feedback) }
+    requires { Allowed game feedback }
+    ensures { result ≡ answer_number game feedback }
 {
     first_with(game.pegs(), feedback.right) + feedback.near
 }
 
 // The feedback that has a number; none where there are not so many.
 pub fn feedback(game: Game, number: u8) -> Option<Feedback>
-    ensures { option_map as_told result ≡ slice_get (answers (as_game game)) number }
+    ensures { result ≡ slice_get (answers game) number }
 {
     let pegs = game.pegs();
     let mut near = number;
-    for right in 0..pegs + 1 {
+    for right in 0..=pegs {
         if near <= pegs - right {
             return Some(Feedback { right, near });
         }

@@ -1,8 +1,7 @@
 // A table's shape, and reading a table that lies in lent bytes.
 ghost use Rattle.std.specs.Prelude.{◌≡◌};
 ghost use Rattle.std.specs.Option.{option_map};
-ghost use Rattle.codes.specs.Meaning.{as_game};
-ghost use Rattle.table.specs.Table.{size, row_at, entry_at, shape_of};
+ghost use Rattle.table.specs.Table.{size, row_at, entry_at};
 
 use crate::answers;
 use codes::Game;
@@ -16,11 +15,13 @@ pub struct Shape {
     pub all_right: u8,
 }
 
-impl Shape {
-    // The shape of a game's table: every code is a guess.
-    pub fn of(game: Game) -> Shape
-        ensures { result ≡ shape_of (as_game game) }
-    {
+// The shape of a game's table: every code is a guess.
+impl From<Game> for Shape {
+    ghost use Rattle.table.specs.Table.{shape_of};
+
+    ghost from_gives = { λ game shape. shape ≡ shape_of game };
+
+    fn from(game: Game) -> Shape {
         Shape {
             codes: game.codes(),
             guesses: game.codes(),
@@ -28,7 +29,9 @@ impl Shape {
             all_right: answers::all_right(game),
         }
     }
+}
 
+impl Shape {
     // How many bytes a table of this shape takes.
     pub fn size(self) -> usize
         ensures { result ≡ size self }
@@ -52,9 +55,6 @@ impl Shape {
     pub fn entry(self, table: &[u8], guess: u16, code: u16) -> Option<u8>
         ensures { result ≡ entry_at self table.now guess code }
     {
-        let Some(row) = self.row(table, guess) else {
-            return None;
-        };
-        row.get(code as usize).copied()
+        self.row(table, guess)?.get(code as usize).copied()
     }
 }

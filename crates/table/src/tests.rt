@@ -4,19 +4,16 @@ use codes::{Feedback, Game};
 use std::test::Fail;
 
 fn taken(pegs: u8, colours: u8) -> Result<Game, Fail> {
-    match Game::new(pegs, colours) {
-        Some(game) => Ok(game),
-        None => Err(Fail::new("not taken")),
-    }
+    Game::new(pegs, colours).ok_or_else(|| Fail::new("not taken"))
 }
 
 #[test]
 fn how_many_answers_one_to_eight_pegs_have(rt: HostRuntime) -> Result<(), Fail> {
     let counts = [3, 6, 10, 15, 21, 28, 36, 45];
-    for i in 0..8 {
-        let shape = Shape::of(taken(i as u8 + 1, 2)?);
-        assert_eq!(rt; shape.answers, counts[i]);
-        assert_eq!(rt; shape.all_right, counts[i] - 1);
+    for (i, count) in counts.iter().enumerate() {
+        let shape = Shape::from(taken(i as u8 + 1, 2)?);
+        assert_eq!(rt; shape.answers, *count);
+        assert_eq!(rt; shape.all_right, *count - 1);
     }
     Ok(())
 }
@@ -27,9 +24,11 @@ const TWO_PEGS: [(u8, u8); 6] = [(0, 0), (0, 1), (0, 2), (1, 0), (1, 1), (2, 0)]
 #[test]
 fn answers_go_by_right_and_then_near(rt: HostRuntime) -> Result<(), Fail> {
     let game = taken(2, 3)?;
-    for i in 0..6 {
-        let (right, near) = TWO_PEGS[i];
-        let told = Feedback { right, near };
+    for (i, (right, near)) in TWO_PEGS.iter().enumerate() {
+        let told = Feedback {
+            right: *right,
+            near: *near,
+        };
         assert_eq!(rt; answers::number(game, told), Some(i as u8));
         assert_eq!(rt; answers::feedback(game, i as u8), Some(told));
     }
@@ -96,9 +95,9 @@ fn three_pegs_of_two_colours(rt: HostRuntime) -> Result<(), Fail> {
     let Some(shape) = tabulate(taken(3, 2)?, &mut table) else {
         return Err(Fail::new("too few bytes"));
     };
-    for guess in 0..8 {
+    for (guess, expected) in THREE_OF_TWO.iter().enumerate() {
         let row = shape.row(&table, guess as u16);
-        assert_eq!(rt; row, Some(&THREE_OF_TWO[guess][0..8]));
+        assert_eq!(rt; row, Some(&expected[..]));
     }
     Ok(())
 }
