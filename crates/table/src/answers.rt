@@ -51,7 +51,7 @@ pub fn feedback(game: Game, number: u8) -> Option<Feedback>
 {
     let pegs = game.pegs();
     let mut near = number;
-    for right in 0..=pegs {
+    for right in 0..pegs + 1 {
         if near <= pegs - right {
             return Some(Feedback { right, near });
         }

@@ -9,7 +9,6 @@ pub fn number_stands()
 {}
 
 // What stands at a number has that number, and is feedback that the game allows.
-#[tactic(auto, using(crate::proofs::Numbers::stands_at_number))]
 pub fn stands_at_number()
     ensures { StandsAtNumber }
 {}
@@ -39,7 +38,6 @@ pub fn right_numbered()
 {}
 
 // The table of a game is a table.
-#[tactic(auto, using(crate::proofs::Entries::game_table))]
 pub fn is_game_table()
     ensures { GameTable }
 {}

@@ -12,17 +12,17 @@ loop-guess-init c = rw zero-mul
 
 pub slice_bounds-write_row-end : goal.slice_bounds-write_row-end
 slice_bounds-write_row-end c =
-    omega (arith, row_within c.loop-guess.guess c.of-shape.result.codes c.of-shape.result.guesses (omega arith))
+    omega (arith, row_within c.loop-guess.guess c.from-shape.result.codes c.from-shape.result.guesses (omega arith))
 
 pub loop-guess-preserved : goal.loop-guess-preserved
 loop-guess-preserved c =
     let g = c.args.game in
-    let codes = ap (λ s. s.codes) c.of-shape.ensures in
+    let codes = ap (λ s. s.codes) c.from-shape.ensures in
     rows_more (row_of g) _ (λ q. length_row_of g q ∙ sym codes) _ _ _ _ _ c.loop-guess.invariant c.write_row.ensures (omega arith)
 
 pub returns : goal.returns
 returns c =
-    let made = c.of-shape.ensures in
+    let made = c.from-shape.ensures in
     let fits : size (shape_of c.args.game) ≤ length c.args.table.now = omega (arith, ap size made) in
     record {
       value = grind (arith, nat_tests);

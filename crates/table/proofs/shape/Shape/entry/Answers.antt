@@ -5,4 +5,4 @@ use Rattle.table.proofs.shape.Shape.entry.Goals as goal
 pub returns : goal.returns
 returns c =
     c.copied.ensures
-    ∙ entry_found c.args.self _ c.args.guess _ _ c.get.result c.in-Some.ensures c.get.ensures.lookup
+    ∙ entry_found c.args.self _ c.args.guess _ _ c.get.result c.in_ok-row.ensures c.get.ensures.lookup
