@@ -5,7 +5,7 @@ use std::process::Abort;
 // A call, and its bytes at the front of a buffer of sevens.
 fn call_is(rt: &impl Abort, call: Call, length: usize, buffer: [u8; 6]) {
     assert!(rt; length <= 6);
-    assert_eq!(rt; Call::read(&buffer[0..length]), Ok(call));
+    assert_eq!(rt; Call::try_from(&buffer[0..length]), Ok(call));
     let mut out = [7; 6];
     assert_eq!(rt; call.write(&mut out), Ok(length));
     assert_eq!(rt; out, buffer);
@@ -26,7 +26,7 @@ fn each_call_by_its_bytes(rt: HostRuntime) {
 }
 
 fn garbled(rt: &impl Abort, row: &[u8], place: u32) {
-    assert_eq!(rt; Call::read(row), Err(Garbled { place }));
+    assert_eq!(rt; Call::try_from(row), Err(Garbled { place }));
 }
 
 #[test]
@@ -43,7 +43,7 @@ fn a_row_is_garbled_at_its_first_byte_that_does_not_fit(rt: HostRuntime) {
     garbled(&rt, &[3, 1, 2, 3], 3);
     garbled(&rt, &[4, 4], 1);
     assert_eq!(rt;
-        Garbled { place: 4 }.answer(),
+        Answer::from(Garbled { place: 4 }),
         Answer::Refused {
             number: 1,
             place: 4,
@@ -53,7 +53,7 @@ fn a_row_is_garbled_at_its_first_byte_that_does_not_fit(rt: HostRuntime) {
 
 fn answer_is(rt: &impl Abort, answer: Answer, length: usize, buffer: [u8; 10]) {
     assert!(rt; length <= 10);
-    assert_eq!(rt; Answer::read(&buffer[0..length]), Ok(answer));
+    assert_eq!(rt; Answer::try_from(&buffer[0..length]), Ok(answer));
     let mut out = [7; 10];
     assert_eq!(rt; answer.write(&mut out), Ok(length));
     assert_eq!(rt; out, buffer);
@@ -82,10 +82,10 @@ fn each_answer_by_its_bytes(rt: HostRuntime) {
         9,
         [2, 0, 1, 0, 0, 255, 255, 255, 255, 7],
     );
-    assert_eq!(rt; Answer::read(&[3]), Err(Garbled { place: 0 }));
-    assert_eq!(rt; Answer::read(&[1, 0, 0, 0]), Err(Garbled { place: 4 }));
+    assert_eq!(rt; Answer::try_from(&[3]), Err(Garbled { place: 0 }));
+    assert_eq!(rt; Answer::try_from(&[1, 0, 0, 0]), Err(Garbled { place: 4 }));
     assert_eq!(rt;
-        Answer::read(&[1, 0, 0, 0, 0, 0]),
+        Answer::try_from(&[1, 0, 0, 0, 0, 0]),
         Err(Garbled { place: 5 })
     );
 }
