@@ -1,10 +1,10 @@
 // An answer, and its bytes.
-ghost use Rattle.std.specs.Prelude.{◌≡◌, ◌≢◌, List, ◌∷◌, ◌++◌, length, take, drop, Ok, MatchOption};
+ghost use Rattle.std.specs.Prelude.{◌≡◌, ◌≢◌, List, [], ◌∷◌, ◌++◌, length, Ok, MatchOption};
 ghost use Rattle.codes.specs.Calls.{Limits, Asked, answer, garbled};
 ghost use Rattle.codes.specs.Codes.{Game};
 ghost use Rattle.wire.specs.Format.{answer_forms, answer_of, answer_bytes};
 ghost use Rattle.wire.specs.Meaning.{says, answered, NoRow, put_in, put_said};
-ghost use Rattle.wire.specs.Rows.{number_of, low_first};
+ghost use Rattle.wire.specs.Rows.{values, low_first};
 
 use crate::refusal::Refusal;
 use crate::row::{Garbled, TooShort, misfit, put};
@@ -63,9 +63,7 @@ impl From<Garbled> for Answer {
 
 // The answer that a row of bytes is, if it is one.
 fn parse(row: &[u8]) -> Option<Answer>
-    ensures {
-        MatchOption result (NoRow answer_forms row.now) (λ a. answer_of row.now ≡ Ok (says a))
-    }
+    ensures { MatchOption result (NoRow answer_forms row.now) (λ a. answer_of row.now ≡ Ok (says a)) }
 {
     match row {
         [0, fields @ ..] => {
@@ -83,10 +81,7 @@ fn parse(row: &[u8]) -> Option<Answer>
 
 // Two numbers, from four bytes each.
 fn two_numbers(fields: &[u8]) -> Option<(u32, u32)>
-    ensures {
-        MatchOption result (length fields.now ≢ 8)
-            (λ r. (length fields.now ≡ 8) × (r.0 ≡ number_of (take 4 fields.now)) × (r.1 ≡ number_of (drop 4 fields.now)))
-    }
+    ensures { MatchOption result (length fields.now ≢ 8) (λ r. (length fields.now ≡ 8) × (values (4 ∷ (4 ∷ [])) fields.now ≡ r.0 ∷ (r.1 ∷ []))) }
 {
     let (m, n) = fields.split_first_chunk()?;
     Some((u32::from_le_bytes(*m), u32::from_le_bytes(*n.as_array()?)))

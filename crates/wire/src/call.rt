@@ -26,7 +26,7 @@ impl TryFrom<&[u8]> for Call {
     ghost try_from_gives = { λ row result. asked result ≡ call_of row.now };
 
     fn try_from(row: &[u8]) -> Result<Call, Garbled> {
-        parse(row).ok_or(misfit(row, &LENGTHS))
+        parse(row).ok_or_else(|| misfit(row, &LENGTHS))
     }
 }
 
@@ -54,9 +54,7 @@ impl Call {
 
 // The call that a row of bytes is, if it is one.
 fn parse(row: &[u8]) -> Option<Call>
-    ensures {
-        MatchOption result (NoRow call_forms row.now) (λ c. asks c ≡ call_of row.now)
-    }
+    ensures { MatchOption result (NoRow call_forms row.now) (λ c. asks c ≡ call_of row.now) }
 {
     match row {
         [0, guess @ .., right, near] => Some(Call::Told {

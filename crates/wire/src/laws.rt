@@ -6,25 +6,21 @@ ghost use Rattle.wire.specs.Laws.{AnswersReadBack, AnswersWrittenBack, AnswersCe
 pub fn read_back()
     ensures calls { CallsReadBack }
     ensures answers { AnswersReadBack }
-{
-}
+{}
 
 // What is read as a call that is not garbled has just the bytes of that call, and what is read as an answer those of that answer.
 pub fn written_back()
     ensures calls { CallsWrittenBack }
     ensures answers { AnswersWrittenBack }
-{
-}
+{}
 
 // Two calls with the same bytes are the same.
 pub fn calls_differ()
     ensures { CallsDiffer }
-{
-}
+{}
 
 // A row that is no call, or no answer, ceases to be one at the first byte that does not fit.
 pub fn cease()
     ensures calls { CallsCease }
     ensures answers { AnswersCease }
-{
-}
+{}
