@@ -1,5 +1,5 @@
 // An answer, and its bytes.
-ghost use Rattle.std.specs.Prelude.{◌≡◌, ◌≢◌, List, [], ◌∷◌, ◌++◌, length, Ok, MatchOption};
+ghost use Rattle.std.specs.Prelude.{◌≡◌, ◌↔◌, List, [], ◌∷◌, ◌++◌, length, Ok, IsSome, IfSome, MatchOption};
 ghost use Rattle.codes.specs.Calls.{Limits, Asked, answer, garbled};
 ghost use Rattle.codes.specs.Codes.{Game};
 ghost use Rattle.wire.specs.Format.{answer_forms, answer_of, answer_bytes};
@@ -50,7 +50,8 @@ impl Answer {
 
 // How a row that cannot be read is answered, whatever was asked before it.
 impl From<Garbled> for Answer {
-    ghost from_gives = { λ row result. (l : Limits) (g : Game) (asked : List Asked) → says result ≡ answer l g asked (garbled row.place) };
+    ghost from_gives = { λ row result. (l : Limits) (g : Game) (asked : List Asked) →
+        says result ≡ answer l g asked (garbled row.place) };
 
     #[tactic(auto, unfolding(codes::specs::Calls::turned, codes::specs::Calls::place))]
     fn from(row: Garbled) -> Answer {
@@ -81,7 +82,8 @@ fn parse(row: &[u8]) -> Option<Answer>
 
 // Two numbers, from four bytes each.
 fn two_numbers(fields: &[u8]) -> Option<(u32, u32)>
-    ensures { MatchOption result (length fields.now ≢ 8) (λ r. (length fields.now ≡ 8) × (values (4 ∷ (4 ∷ [])) fields.now ≡ r.0 ∷ (r.1 ∷ []))) }
+    ensures whole { IsSome result ↔ (length fields.now ≡ 8) }
+    ensures value { IfSome result (λ r. values (4 ∷ (4 ∷ [])) fields.now ≡ r.0 ∷ (r.1 ∷ [])) }
 {
     let (m, n) = fields.split_first_chunk()?;
     Some((u32::from_le_bytes(*m), u32::from_le_bytes(*n.as_array()?)))

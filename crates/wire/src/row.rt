@@ -17,7 +17,8 @@ pub struct TooShort {
 
 // The first byte that does not fit of a row that cannot be read, by how long rows are.
 pub(crate) fn misfit(row: &[u8], lengths: &[u8]) -> Garbled
-    ensures { (forms : List (List ℕ)) → lengths.now ≡ lengths_of forms → NoRow forms row.now → reading forms row.now ≡ ceases result.place }
+    ensures { (forms : List (List ℕ)) → lengths.now ≡ lengths_of forms → NoRow forms row.now →
+        reading forms row.now ≡ ceases result.place }
 {
     let Some(number) = row.first() else {
         return Garbled { place: 0 };
