@@ -24,7 +24,7 @@ number_of_lt [] h = omega arith
 number_of_lt (b ∷ bs) h = let p = pow-succ' 256 (length bs) in let ih = number_of_lt bs h.1 in omega arith
 
 -- a list of a known length, one by one
-pub counted : (xs : List ℕ) (n : ℕ) → length xs ≡ n → xs ≡ map (λ i. get_or xs i 0) (range_with_len 0 n)
+counted : (xs : List ℕ) (n : ℕ) → length xs ≡ n → xs ≡ map (λ i. get_or xs i 0) (range_with_len 0 n)
 counted xs n l = fill_by_all (λ i. get_or xs i 0) xs n 0 l (λ _ _. refl)
 
 length_low_first : (w n : ℕ) → length (low_first w n) ≡ w
