@@ -8,7 +8,7 @@ pub fn read_back()
     ensures answers { AnswersReadBack }
 {}
 
-// What is read as a call that is not garbled has just the bytes of that call, and what is read as an answer those of that answer.
+// What is read as a call that is not garbled, or as an answer, has just the bytes of that call or answer.
 pub fn written_back()
     ensures calls { CallsWrittenBack }
     ensures answers { AnswersWrittenBack }

@@ -1,21 +1,27 @@
-// Why a call is turned away.
+// Why a call, or a game, is turned away.
 ghost use Rattle.std.specs.Prelude.{◌≡◌};
 ghost use Rattle.wire.specs.Meaning.{refusal_number};
 
-// Each refusal by its number: a row that cannot be read; more pegs told of than there are; a game that is not taken, or memory
-// that is too small; no such code; taking back with no guess, or advice with no code left; more guesses than the limit; advice
-// with more than 64 codes left.
+// A refusal, by its number.
 #[derive(Clone, Copy, Debug, PartialEq, Eq)]
 pub enum Refusal {
+    // A row that cannot be read.
     Unreadable = 1,
+    // More pegs told of than there are.
     MorePegs = 2,
+    // A game that is not taken, or memory that is too small.
     NoSuchGame = 3,
+    // A code that the game does not have.
     NoSuchCode = 4,
+    // Taking back with no guess, or advice with no code left.
     NothingLeft = 5,
+    // More guesses than the limit.
     PastLimit = 6,
+    // Advice with more than 64 codes left.
     TooManyLeft = 7,
 }
 
+// The refusal's number.
 impl From<Refusal> for u32 {
     ghost from_gives = { λ refusal result. result ≡ refusal_number refusal };
 

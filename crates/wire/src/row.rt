@@ -15,7 +15,7 @@ pub struct TooShort {
     pub needed: usize,
 }
 
-// The first byte that does not fit of a row that cannot be read, by how long rows are.
+// The first byte that does not fit, of a row that is none, by how long each row is.
 pub(crate) fn misfit(row: &[u8], lengths: &[u8]) -> Garbled
     ensures { (forms : List (List ℕ)) → lengths.now ≡ lengths_of forms → NoRow forms row.now →
         reading forms row.now ≡ ceases result.place }
