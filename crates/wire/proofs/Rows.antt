@@ -1,11 +1,11 @@
 -- Rows of any forms: what is written is read back, and what is not a row ceases to be one at the place that is read. Assumes nothing.
-use Rattle.std.proofs.Common.{◌≡◌, ℕ, zero, suc, ◌-◌, ◌/◌, ◌^◌, ◌<◌, ◌≤◌, Bool, true, false, eqb, ltb, ◌⊎◌, List, [], ◌∷◌, ◌++◌, map, length, get_or, take, drop, replicate, sym, refl, ap, ◌∙◌, subst, inl, inr, ⊎_elim, append_assoc, arith}
+use Rattle.std.proofs.Common.{◌≡◌, ℕ, zero, suc, ◌-◌, ◌/◌, ◌^◌, ◌<◌, ◌≤◌, Bool, true, false, eqb, ltb, ◌⊎◌, List, [], ◌∷◌, ◌++◌, map, length, get_or, take, drop, replicate, sym, refl, ap, ◌∙◌, subst, inl, inr, append_assoc, arith}
 use native.Mathlib.Nat.{pow-succ'}
 use Rattle.std.specs.List.{range_with_len}
 use Rattle.std.proofs.lemmas.List.{take_at, take-take, take-append-drop, drop_at, length-append, length-drop, length-take-le, length-replicate}
 use Rattle.std.proofs.ByRecursion.{All-append, All-take, All-drop}
 use Rattle.std.proofs.lemmas.List.FromFn.{fill_by_all}
-use Rattle.std.proofs.lemmas.Bool.{ltb-true, ltb-false, eqb-true, cases_order}
+use Rattle.std.proofs.lemmas.Bool.{ltb-true, ltb-false, eqb-true}
 use Rattle.std.proofs.lemmas.Bool.Decides.{nat_tests}
 use Rattle.codes.specs.Codes.{pick}
 use Rattle.wire.specs.Rows.{Bytes, low_first, number_of, size, written, values, Fit}
@@ -24,7 +24,7 @@ number_of_lt [] h = omega arith
 number_of_lt (b ∷ bs) h = let p = pow-succ' 256 (length bs) in let ih = number_of_lt bs h.1 in omega arith
 
 -- a list of a known length, one by one
-pub counted : (xs : List ℕ) (n : ℕ) → length xs ≡ n → xs ≡ map (λ i. get_or xs i 0) (range_with_len 0 n)
+counted : (xs : List ℕ) (n : ℕ) → length xs ≡ n → xs ≡ map (λ i. get_or xs i 0) (range_with_len 0 n)
 counted xs n l = fill_by_all (λ i. get_or xs i 0) xs n 0 l (λ _ _. refl)
 
 length_low_first : (w n : ℕ) → length (low_first w n) ≡ w
@@ -44,20 +44,15 @@ values_written (w ∷ ws) (v ∷ vs) f =
     let l = length_low_first w v in
     simp (take_at _ (written ws vs) w l, drop_at _ (written ws vs) w l, number_of_low_first w v f.0, values_written ws vs f.1)
 
-written_values : (ws bs : List ℕ) → length bs ≡ size ws → Bytes bs → written ws (values ws bs) ≡ bs
-written_values [] [] l h = refl
-written_values [] (b ∷ bs) l h = absurd (omega arith)
-written_values (w ∷ ws) bs l h =
+-- bytes of a form's size are its values, written
+values_sound : (ws bs : List ℕ) → length bs ≡ size ws → Bytes bs → Fit ws (values ws bs) × (written ws (values ws bs) ≡ bs)
+values_sound [] [] l h = (tt, refl)
+values_sound [] (b ∷ bs) l h = absurd (omega arith)
+values_sound (w ∷ ws) bs l h =
     let front = length-take-le w bs (omega arith) in
-    let ih = written_values ws (drop w bs) (simp length-drop (omega arith)) (All-drop _ w bs h) in
-    cc (low_first_number_of (take w bs) (All-take _ w bs h), take-append-drop w bs)
-
-fit_values : (ws bs : List ℕ) → length bs ≡ size ws → Bytes bs → Fit ws (values ws bs)
-fit_values [] bs l h = tt
-fit_values (w ∷ ws) bs l h =
-    let front = length-take-le w bs (omega arith) in
-    let ih = fit_values ws (drop w bs) (simp length-drop (omega arith)) (All-drop _ w bs h) in
-    (rw front at (number_of_lt (take w bs) (All-take _ w bs h)), ih)
+    let low = All-take _ w bs h in
+    let ih = values_sound ws (drop w bs) (simp length-drop (omega arith)) (All-drop _ w bs h) in
+    ((rw front at (number_of_lt (take w bs) low), ih.0), cc (low_first_number_of (take w bs) low, take-append-drop w bs))
 
 zero_bytes : (n : ℕ) → Bytes (replicate n 0)
 zero_bytes zero = tt
@@ -87,10 +82,7 @@ module _ {A : Type 0} (Known : A → Type 0) (bytes : A → List ℕ) (bs : List
       ]
 
   ceases_once : (n : ℕ) → Ceases Known bytes bs n → Only (Ceases Known bytes bs) n
-  ceases_once n c = (
-    c,
-    λ m d. ⊎_elim (λ e. e) (⊎_elim (λ lt. absurd (no_later m n d c lt)) (λ lt. absurd (no_later n m c d lt))) (cases_order m n),
-  )
+  ceases_once n c = (c, λ m d. grind (arith, no_later m n d c, no_later n m c d))
 
 module _ (forms : List (List ℕ)) where
   pub reading_row_bytes : (r : Reading) → Fits forms r → reading forms (row_bytes forms r) ≡ r
@@ -116,8 +108,8 @@ module _ (forms : List (List ℕ)) where
       let ws = get_or forms k [] in
       let zs = replicate (size ws - length bs) 0 in
       let l : length (bs ++ zs) ≡ size ws = simp (length-append, length-replicate) (omega arith) in
-      let h' = All-append _ bs zs h (zero_bytes _) in
-      (row k (values ws (bs ++ zs)), (known, fit_values ws _ l h'), (zs, ap (λ xs. k ∷ xs) (sym (written_values ws _ l h'))))
+      let is = values_sound ws (bs ++ zs) l (All-append _ bs zs h (zero_bytes _)) in
+      (row k (values ws (bs ++ zs)), (known, is.0), (zs, ap (λ xs. k ∷ xs) (sym is.1)))
 
   some_row : 0 < length forms → (r : Reading) × Fits forms r × Begins [] (row_bytes forms r)
   some_row some = let r = begins_row 0 [] some tt (omega arith) in (r.0, r.1, (row_bytes forms r.0, refl))
@@ -157,7 +149,7 @@ module _ (forms : List (List ℕ)) where
   by_form_sound k bs known h =
       let ws = get_or forms k [] in
       pick_both (eqb (length bs) (size ws)) _ _ (Sound (k ∷ bs))
-      (λ e. let l = eqb-true _ _ e in ((known, fit_values ws bs l h), ap (λ xs. k ∷ xs) (written_values ws bs l h)))
+      (λ e. let is = values_sound ws bs (eqb-true _ _ e) h in ((known, is.0), ap (λ xs. k ∷ xs) is.1))
       (λ e. ceases_after k _ bs known h (grind (arith, nat_tests)))
 
   pub reading_sound : (bs : List ℕ) → 0 < length forms → Bytes bs → Sound bs (reading forms bs)

@@ -1,12 +1,13 @@
 // An answer, and its bytes.
-ghost use Rattle.std.specs.Prelude.{◌≡◌, List, ◌∷◌, ◌++◌, length};
+ghost use Rattle.std.specs.Prelude.{◌≡◌, ◌↔◌, List, [], ◌∷◌, ◌++◌, length, Ok, IsSome, IfSome, MatchOption};
 ghost use Rattle.codes.specs.Calls.{Limits, Asked, answer, garbled};
 ghost use Rattle.codes.specs.Codes.{Game};
-ghost use Rattle.wire.specs.Format.{answer_of, answer_bytes};
-ghost use Rattle.wire.specs.Meaning.{says, answered, put_in, put_said};
-ghost use Rattle.wire.specs.Rows.{number_of, low_first};
+ghost use Rattle.wire.specs.Format.{answer_forms, answer_of, answer_bytes};
+ghost use Rattle.wire.specs.Meaning.{says, answered, NoRow, put_in, put_said};
+ghost use Rattle.wire.specs.Rows.{values, low_first};
 
-use crate::row::{Garbled, TooShort, put, whole};
+use crate::refusal::Refusal;
+use crate::row::{Garbled, TooShort, misfit, put};
 
 // What a desk answers, by the numbers 0 to 2: a refusal's number and its place; a number; two numbers.
 #[derive(Clone, Copy, Debug, PartialEq, Eq)]
@@ -19,23 +20,18 @@ pub enum Answer {
 // How many bytes each answer has, by its number.
 const LENGTHS: [u8; 3] = [9, 5, 9];
 
-impl Answer {
-    // The answer that a row of bytes is, or the first byte that does not fit.
-    pub fn read(row: &[u8]) -> Result<Answer, Garbled>
-        ensures { answered result ≡ answer_of row.now }
-    {
-        let row = whole(row, &LENGTHS)?;
-        let answer = match row[0] {
-            0 => Answer::Refused {
-                number: number(&row[1..5]),
-                place: number(&row[5..9]),
-            },
-            1 => Answer::Number(number(&row[1..5])),
-            _ => Answer::Two(number(&row[1..5]), number(&row[5..9])),
-        };
-        Ok(answer)
-    }
+// The answer that a row of bytes is, or the first byte that does not fit.
+impl TryFrom<&[u8]> for Answer {
+    type Error = Garbled;
 
+    ghost try_from_gives = { λ row result. answered result ≡ answer_of row.now };
+
+    fn try_from(row: &[u8]) -> Result<Answer, Garbled> {
+        parse(row).ok_or_else(|| misfit(row, &LENGTHS))
+    }
+}
+
+impl Answer {
     // Writes the answer's bytes to the front of a buffer and says how many; one that is too short is left as it was.
     pub fn write(self, out: &mut [u8]) -> Result<usize, TooShort>
         ensures value { result ≡ put_said (answer_bytes (says self)) out.old }
@@ -52,24 +48,45 @@ impl Answer {
     }
 }
 
-impl Garbled {
-    // How a row that cannot be read is answered, whatever was asked before it.
-    pub fn answer(self) -> Answer
-        ensures { (l : Limits) (g : Game) (asked : List Asked) → says result ≡ answer l g asked (garbled self.place) }
-    {
+// How a row that cannot be read is answered, whatever was asked before it.
+impl From<Garbled> for Answer {
+    ghost from_gives = { λ row result. (l : Limits) (g : Game) (asked : List Asked) →
+        says result ≡ answer l g asked (garbled row.place) };
+
+    #[tactic(auto, unfolding(codes::specs::Calls::turned, codes::specs::Calls::place))]
+    fn from(row: Garbled) -> Answer {
         Answer::Refused {
-            number: 1,
-            place: self.place,
+            number: Refusal::Unreadable.into(),
+            place: row.place,
         }
     }
 }
 
-// A number, from its four bytes.
-fn number(field: &[u8]) -> u32
-    requires { length field.now ≡ 4 }
-    ensures { result ≡ number_of field.now }
+// The answer that a row of bytes is, if it is one.
+fn parse(row: &[u8]) -> Option<Answer>
+    ensures { MatchOption result (NoRow answer_forms row.now) (λ a. answer_of row.now ≡ Ok (says a)) }
 {
-    u32::from_le_bytes([field[0], field[1], field[2], field[3]])
+    match row {
+        [0, fields @ ..] => {
+            let (number, place) = two_numbers(fields)?;
+            Some(Answer::Refused { number, place })
+        }
+        [1, number @ ..] => Some(Answer::Number(u32::from_le_bytes(*number.as_array()?))),
+        [2, fields @ ..] => {
+            let (m, n) = two_numbers(fields)?;
+            Some(Answer::Two(m, n))
+        }
+        _ => None,
+    }
+}
+
+// Two numbers, from four bytes each.
+fn two_numbers(fields: &[u8]) -> Option<(u32, u32)>
+    ensures whole { IsSome result ↔ (length fields.now ≡ 8) }
+    ensures value { IfSome result (λ r. values (4 ∷ (4 ∷ [])) fields.now ≡ r.0 ∷ (r.1 ∷ [])) }
+{
+    let (m, n) = fields.split_first_chunk()?;
+    Some((u32::from_le_bytes(*m), u32::from_le_bytes(*n.as_array()?)))
 }
 
 // A row of two numbers.

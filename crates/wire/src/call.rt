@@ -1,10 +1,9 @@
 // A call, and its bytes.
-ghost use Rattle.std.specs.Prelude.{◌≡◌, length};
-ghost use Rattle.wire.specs.Format.{call_of, bytes_of};
-ghost use Rattle.wire.specs.Meaning.{asks, asked, put_in, put_said};
-ghost use Rattle.wire.specs.Rows.{number_of};
+ghost use Rattle.std.specs.Prelude.{◌≡◌, MatchOption};
+ghost use Rattle.wire.specs.Format.{call_forms, call_of, bytes_of};
+ghost use Rattle.wire.specs.Meaning.{asks, asked, NoRow, put_in, put_said};
 
-use crate::row::{Garbled, TooShort, put, whole};
+use crate::row::{Garbled, TooShort, misfit, put};
 
 // What a desk is asked, by the numbers 0 to 4: a guess and what was told of it, right and near; the last guess taken back; how
 // many codes are left, and the first; whether a code could be the one; how few guesses are enough.
@@ -20,26 +19,18 @@ pub enum Call {
 // How many bytes each call has, by its number.
 const LENGTHS: [u8; 5] = [5, 1, 1, 3, 1];
 
-impl Call {
-    // The call that a row of bytes is, or the first byte that does not fit.
-    pub fn read(row: &[u8]) -> Result<Call, Garbled>
-        ensures { asked result ≡ call_of row.now }
-    {
-        let row = whole(row, &LENGTHS)?;
-        let call = match row[0] {
-            0 => Call::Told {
-                guess: code(&row[1..3]),
-                right: row[3],
-                near: row[4],
-            },
-            1 => Call::Back,
-            2 => Call::Left,
-            3 => Call::CouldBe(code(&row[1..3])),
-            _ => Call::Advise,
-        };
-        Ok(call)
-    }
+// The call that a row of bytes is, or the first byte that does not fit.
+impl TryFrom<&[u8]> for Call {
+    type Error = Garbled;
 
+    ghost try_from_gives = { λ row result. asked result ≡ call_of row.now };
+
+    fn try_from(row: &[u8]) -> Result<Call, Garbled> {
+        parse(row).ok_or_else(|| misfit(row, &LENGTHS))
+    }
+}
+
+impl Call {
     // Writes the call's bytes to the front of a buffer and says how many; one that is too short is left as it was.
     pub fn write(self, out: &mut [u8]) -> Result<usize, TooShort>
         ensures value { result ≡ put_said (bytes_of (asks self)) out.old }
@@ -61,10 +52,20 @@ impl Call {
     }
 }
 
-// A code, from its two bytes.
-fn code(field: &[u8]) -> u16
-    requires { length field.now ≡ 2 }
-    ensures { result ≡ number_of field.now }
+// The call that a row of bytes is, if it is one.
+fn parse(row: &[u8]) -> Option<Call>
+    ensures { MatchOption result (NoRow call_forms row.now) (λ c. asks c ≡ call_of row.now) }
 {
-    u16::from_le_bytes([field[0], field[1]])
+    match row {
+        [0, guess @ .., right, near] => Some(Call::Told {
+            guess: u16::from_le_bytes(*guess.as_array()?),
+            right: *right,
+            near: *near,
+        }),
+        [1] => Some(Call::Back),
+        [2] => Some(Call::Left),
+        [3, code @ ..] => Some(Call::CouldBe(u16::from_le_bytes(*code.as_array()?))),
+        [4] => Some(Call::Advise),
+        _ => None,
+    }
 }

@@ -4,10 +4,12 @@
 mod answer;
 mod call;
 pub mod laws;
+mod refusal;
 mod row;
 
 pub use answer::Answer;
 pub use call::Call;
+pub use refusal::Refusal;
 pub use row::{Garbled, TooShort};
 
 #[cfg(test)]

@@ -1,6 +1,7 @@
-// What the rows of calls and of answers share: how one is found whole, and how one is put into a buffer.
-ghost use Rattle.std.specs.Prelude.{◌≡◌, IfOk};
-ghost use Rattle.wire.specs.Meaning.{Exactly, Whole, Found, put_in, put_said};
+// What the rows of calls and of answers share: where one does not fit, and how one is put into a buffer.
+ghost use Rattle.std.specs.Prelude.{◌≡◌, ℕ, List};
+ghost use Rattle.wire.specs.Meaning.{lengths_of, NoRow, put_in, put_said};
+ghost use Rattle.wire.specs.Rows.{ceases, reading};
 
 // A row that cannot be read, and the first of its bytes that does not fit.
 #[derive(Clone, Copy, Debug, PartialEq, Eq)]
@@ -14,33 +15,19 @@ pub struct TooShort {
     pub needed: usize,
 }
 
-// The row itself, where it has as many bytes as a row with its first byte has.
-pub(crate) fn whole<'a>(row: &'a [u8], lengths: &[u8]) -> Result<&'a [u8], Garbled>
-    ensures same { IfOk result (λ x. (x.now ≡ row.now) × Whole lengths.now x.now) }
-    ensures reads { Found lengths.now row.now result }
+// The first byte that does not fit, of a row that is none, by how long each row is.
+pub(crate) fn misfit(row: &[u8], lengths: &[u8]) -> Garbled
+    ensures { (forms : List (List ℕ)) → lengths.now ≡ lengths_of forms → NoRow forms row.now →
+        reading forms row.now ≡ ceases result.place }
 {
     let Some(number) = row.first() else {
-        return Err(Garbled { place: 0 });
+        return Garbled { place: 0 };
     };
     let Some(length) = lengths.get(*number as usize) else {
-        return Err(Garbled { place: 0 });
+        return Garbled { place: 0 };
     };
-    let Some(row) = exactly(row, *length as usize) else {
-        return Err(Garbled {
-            place: row.len().min(*length as usize) as u32,
-        });
-    };
-    Ok(row)
-}
-
-// The bytes themselves, where there are just so many.
-fn exactly(bytes: &[u8], count: usize) -> Option<&[u8]>
-    ensures { Exactly count bytes.now result }
-{
-    if bytes.len() == count {
-        Some(bytes)
-    } else {
-        None
+    Garbled {
+        place: row.len().min(*length as usize) as u32,
     }
 }
 

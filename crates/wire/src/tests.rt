@@ -1,14 +1,21 @@
 // Each call and each answer by its bytes written out, rows that are none, and buffers that are too short.
-use crate::{Answer, Call, Garbled, TooShort};
+use crate::{Answer, Call, Garbled, Refusal, TooShort};
 use std::process::Abort;
 
-// A call, and its bytes at the front of a buffer of sevens.
-fn call_is(rt: &impl Abort, call: Call, length: usize, buffer: [u8; 6]) {
-    assert!(rt; length <= 6);
-    assert_eq!(rt; Call::read(&buffer[0..length]), Ok(call));
-    let mut out = [7; 6];
-    assert_eq!(rt; call.write(&mut out), Ok(length));
-    assert_eq!(rt; out, buffer);
+// Writing puts a row at the front of a buffer of sevens.
+fn writes<W: FnOnce(&mut [u8]) -> Result<usize, TooShort>>(rt: &impl Abort, row: &[u8], write: W)
+    requires { W.IsAlwaysCallable write }
+{
+    let mut out = [7; 10];
+    assert_eq!(rt; write(&mut out), Ok(row.len()));
+    let rest = out.strip_prefix(row);
+    assert!(rt; rest.is_some_and(|rest| rest.iter().all(|byte| *byte == 7)));
+}
+
+// A call, and its bytes.
+fn call_is(rt: &impl Abort, call: Call, row: &[u8]) {
+    assert_eq!(rt; Call::try_from(row), Ok(call));
+    writes(rt, row, |out| call.write(out));
 }
 
 #[test]
@@ -18,32 +25,33 @@ fn each_call_by_its_bytes(rt: HostRuntime) {
         right: 3,
         near: 4,
     };
-    call_is(&rt, told, 5, [0, 1, 2, 3, 4, 7]);
-    call_is(&rt, Call::Back, 1, [1, 7, 7, 7, 7, 7]);
-    call_is(&rt, Call::Left, 1, [2, 7, 7, 7, 7, 7]);
-    call_is(&rt, Call::CouldBe(65280), 3, [3, 0, 255, 7, 7, 7]);
-    call_is(&rt, Call::Advise, 1, [4, 7, 7, 7, 7, 7]);
+    call_is(&rt, told, &[0, 1, 2, 3, 4]);
+    call_is(&rt, Call::Back, &[1]);
+    call_is(&rt, Call::Left, &[2]);
+    call_is(&rt, Call::CouldBe(65280), &[3, 0, 255]);
+    call_is(&rt, Call::Advise, &[4]);
 }
 
-fn garbled(rt: &impl Abort, row: &[u8], place: u32) {
-    assert_eq!(rt; Call::read(row), Err(Garbled { place }));
+// No call, at the first byte that does not fit.
+fn no_call(rt: &impl Abort, row: &[u8], place: u32) {
+    assert_eq!(rt; Call::try_from(row), Err(Garbled { place }));
 }
 
 #[test]
 fn a_row_is_garbled_at_its_first_byte_that_does_not_fit(rt: HostRuntime) {
-    garbled(&rt, &[], 0);
-    garbled(&rt, &[5], 0);
-    garbled(&rt, &[255, 0], 0);
-    garbled(&rt, &[0], 1);
-    garbled(&rt, &[0, 1, 2, 3], 4);
-    garbled(&rt, &[0, 1, 2, 3, 4, 5], 5);
-    garbled(&rt, &[1, 0], 1);
-    garbled(&rt, &[2, 0], 1);
-    garbled(&rt, &[3, 1], 2);
-    garbled(&rt, &[3, 1, 2, 3], 3);
-    garbled(&rt, &[4, 4], 1);
+    no_call(&rt, &[], 0);
+    no_call(&rt, &[5], 0);
+    no_call(&rt, &[255, 0], 0);
+    no_call(&rt, &[0], 1);
+    no_call(&rt, &[0, 1, 2, 3], 4);
+    no_call(&rt, &[0, 1, 2, 3, 4, 5], 5);
+    no_call(&rt, &[1, 0], 1);
+    no_call(&rt, &[2, 0], 1);
+    no_call(&rt, &[3, 1], 2);
+    no_call(&rt, &[3, 1, 2, 3], 3);
+    no_call(&rt, &[4, 4], 1);
     assert_eq!(rt;
-        Garbled { place: 4 }.answer(),
+        Answer::from(Garbled { place: 4 }),
         Answer::Refused {
             number: 1,
             place: 4,
@@ -51,12 +59,15 @@ fn a_row_is_garbled_at_its_first_byte_that_does_not_fit(rt: HostRuntime) {
     );
 }
 
-fn answer_is(rt: &impl Abort, answer: Answer, length: usize, buffer: [u8; 10]) {
-    assert!(rt; length <= 10);
-    assert_eq!(rt; Answer::read(&buffer[0..length]), Ok(answer));
-    let mut out = [7; 10];
-    assert_eq!(rt; answer.write(&mut out), Ok(length));
-    assert_eq!(rt; out, buffer);
+// No answer, at the first byte that does not fit.
+fn no_answer(rt: &impl Abort, row: &[u8], place: u32) {
+    assert_eq!(rt; Answer::try_from(row), Err(Garbled { place }));
+}
+
+// An answer, and its bytes.
+fn answer_is(rt: &impl Abort, answer: Answer, row: &[u8]) {
+    assert_eq!(rt; Answer::try_from(row), Ok(answer));
+    writes(rt, row, |out| answer.write(out));
 }
 
 #[test]
@@ -67,27 +78,17 @@ fn each_answer_by_its_bytes(rt: HostRuntime) {
             number: 7,
             place: 258,
         },
-        9,
-        [0, 7, 0, 0, 0, 2, 1, 0, 0, 7],
+        &[0, 7, 0, 0, 0, 2, 1, 0, 0],
     );
-    answer_is(
-        &rt,
-        Answer::Number(67305985),
-        5,
-        [1, 1, 2, 3, 4, 7, 7, 7, 7, 7],
-    );
+    answer_is(&rt, Answer::Number(67305985), &[1, 1, 2, 3, 4]);
     answer_is(
         &rt,
         Answer::Two(256, 4294967295),
-        9,
-        [2, 0, 1, 0, 0, 255, 255, 255, 255, 7],
+        &[2, 0, 1, 0, 0, 255, 255, 255, 255],
     );
-    assert_eq!(rt; Answer::read(&[3]), Err(Garbled { place: 0 }));
-    assert_eq!(rt; Answer::read(&[1, 0, 0, 0]), Err(Garbled { place: 4 }));
-    assert_eq!(rt;
-        Answer::read(&[1, 0, 0, 0, 0, 0]),
-        Err(Garbled { place: 5 })
-    );
+    no_answer(&rt, &[3], 0);
+    no_answer(&rt, &[1, 0, 0, 0], 4);
+    no_answer(&rt, &[1, 0, 0, 0, 0, 0], 5);
 }
 
 #[test]
@@ -102,4 +103,18 @@ fn a_short_buffer_is_left_as_it_was(rt: HostRuntime) {
         Err(TooShort { needed: 3 })
     );
     assert_eq!(rt; out, [7; 4]);
+}
+
+#[test]
+fn each_refusal_by_its_number(rt: HostRuntime) {
+    let refusals = [
+        Refusal::Unreadable,
+        Refusal::MorePegs,
+        Refusal::NoSuchGame,
+        Refusal::NoSuchCode,
+        Refusal::NothingLeft,
+        Refusal::PastLimit,
+        Refusal::TooManyLeft,
+    ];
+    assert_eq!(rt; refusals.map(u32::from), [1, 2, 3, 4, 5, 6, 7]);
 }
