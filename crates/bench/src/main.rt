@@ -27,7 +27,7 @@ fn measure(rt: &HostRuntime, pegs: u8, colours: u8) -> anyhow::Result<()> {
     let Some(game) = Game::new(pegs, colours) else {
         return Err(anyhow!("there is no such game"));
     };
-    let size = Shape::of(game).size();
+    let size = Shape::from(game).size();
     let mut table = vec![in rt.alloc(); 0u8; size]?;
     let mut least = f64::MAX;
     for _ in 0..RUNS {

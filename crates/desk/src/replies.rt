@@ -1,15 +1,16 @@
 // What is printed for a line.
 ghost use Rattle.std.specs.Prelude.{◌≡◌, IfOk, string_bytes};
 ghost use Rattle.codes.specs.Pegs.{game_of};
-ghost use Rattle.desk.specs.Replies.{shortened, told_of_rows, reply_to};
+ghost use Rattle.desk.specs.Replies.{shortened, told_in_words, told_of_rows, reply_to};
 ghost use Rattle.std.specs.Option.{option_map};
 ghost use Rattle.text.specs.Words.{in_words, refused_at};
 ghost use Rattle.wire.specs.Format.{call_of};
+ghost use Rattle.wire.specs.Meaning.{refusal_number};
 
 use codes::Game;
 use std::alloc::{AllocError, Global};
 use text::{InWords, Line, Refused, Told};
-use wire::Call;
+use wire::{Call, Refusal};
 
 // The reply to a line; none for one that is passed over.
 pub fn reply_to(heap: Global, line: &[u8]) -> Result<Option<String>, AllocError>
@@ -27,7 +28,7 @@ pub fn reply_to(heap: Global, line: &[u8]) -> Result<Option<String>, AllocError>
         } => {
             Ok(Some(reply_to_feedback(heap, pegs, colours, code.as_slice(), guess.as_slice())?))
         }
-        Line::Unreadable { place } => Ok(Some(refusal(heap, 1, place)?)),
+        Line::Unreadable { place } => Ok(Some(refusal(heap, Refusal::Unreadable, place)?)),
     }
 }
 
@@ -35,9 +36,9 @@ pub fn reply_to(heap: Global, line: &[u8]) -> Result<Option<String>, AllocError>
 fn reply_to_row(heap: Global, row: &[u8]) -> Result<String, AllocError>
     ensures { IfOk result (λ s. string_bytes s ≡ in_words (call_of row.now)) }
 {
-    match Call::read(row) {
+    match Call::try_from(row) {
         Ok(call) => InWords(call).to_string(heap),
-        Err(garbled) => refusal(heap, 1, garbled.place as usize),
+        Err(garbled) => refusal(heap, Refusal::Unreadable, garbled.place as usize),
     }
 }
 
@@ -51,18 +52,29 @@ fn reply_to_feedback(
 ) -> Result<String, AllocError>
     ensures { IfOk result (λ s. string_bytes s ≡ told_of_rows (game_of pegs colours) code.now guess.now) }
 {
-    let Some(game) = Game::new(pegs, colours) else {
-        return refusal(heap, 3, 0);
-    };
-    let (Some(code), Some(guess)) = (game.code_of(code), game.code_of(guess)) else {
-        return refusal(heap, 4, 0);
-    };
-    Told(game.feedback(code, guess)).to_string(heap)
+    match told(pegs, colours, code, guess) {
+        Ok(told) => told.to_string(heap),
+        Err(refused) => refusal(heap, refused, 0),
+    }
 }
 
-fn refusal(heap: Global, number: u32, place: usize) -> Result<String, AllocError>
-    ensures { IfOk result (λ s. string_bytes s ≡ refused_at number place) }
+// What a guess is told of a code, both given as rows of pegs.
+fn told(pegs: u8, colours: u8, code: &[u8], guess: &[u8]) -> Result<Told, Refusal>
+    ensures { told_in_words result ≡ told_of_rows (game_of pegs colours) code.now guess.now }
 {
+    let Some(game) = Game::new(pegs, colours) else {
+        return Err(Refusal::NoSuchGame);
+    };
+    let (Some(code), Some(guess)) = (game.code_of(code), game.code_of(guess)) else {
+        return Err(Refusal::NoSuchCode);
+    };
+    Ok(Told(game.feedback(code, guess)))
+}
+
+fn refusal(heap: Global, refusal: Refusal, place: usize) -> Result<String, AllocError>
+    ensures { IfOk result (λ s. string_bytes s ≡ refused_at (refusal_number refusal) place) }
+{
+    let number = refusal.into();
     Refused { number, place }.to_string(heap)
 }
 
