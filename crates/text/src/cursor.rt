@@ -1,5 +1,5 @@
 // A line that is read from left to right: bytes, as ` 0b`, and fields, as ` 0112`.
-ghost use Rattle.std.specs.Prelude.{◌≡◌, ◌≢◌, ◌↔◌, ℕ, ◌+◌, ◌<◌, ◌≤◌, IsTrue, drop, take, length, IfSome, IfOk, IfErr, OnOk};
+ghost use Rattle.std.specs.Prelude.{◌≡◌, ◌≢◌, ◌↔◌, ℕ, ◌+◌, ◌<◌, ◌≤◌, IsTrue, drop, take, length, slice_index, IfSome, IfOk, IfErr, OnOk};
 ghost use Rattle.text.specs.Fields.{digit, digit_below, run, field_end, digits_of};
 ghost use Rattle.text.specs.Lines.{front_byte};
 
@@ -53,13 +53,14 @@ impl<'a> Cursor<'a> {
         ensures at { OnOk result (self.new.at ≡ self.old.at + 3) }
     {
         let at = self.at;
-        let [b' ', rest @ ..] = &self.text[at..] else {
+        let rest = &self.text[at..];
+        let [b' ', ..] = rest else {
             return Err(Misfit { place: at });
         };
-        let Some(high) = rest.first().and_then(|c| hex_digit(*c)) else {
+        let Some(high) = digit_at(rest, 1) else {
             return Err(Misfit { place: at + 1 });
         };
-        let Some(low) = rest.get(1).and_then(|c| hex_digit(*c)) else {
+        let Some(low) = digit_at(rest, 2) else {
             return Err(Misfit { place: at + 2 });
         };
         self.at += 3;
@@ -83,6 +84,14 @@ impl<'a> Cursor<'a> {
         self.at += 1 + digits;
         Ok(&rest[..digits])
     }
+}
+
+// The value of the hexadecimal digit at a place of a text, if one is there.
+fn digit_at(text: &[u8], place: usize) -> Option<u8>
+    ensures value { result ≡ digit (slice_index text.now place) }
+    ensures bound { IfSome result (λ d. (d < 16) × (place < length text.now)) }
+{
+    text.get(place).and_then(|c| hex_digit(*c))
 }
 
 // How many characters at the front of a text are digits below a radix.
