@@ -1,5 +1,5 @@
 -- How the bytes of a line are read, one after another. Assumes nothing.
-use Rattle.std.proofs.Common.{◌≡◌, ℕ, ◌+◌, ◌<◌, List, [], ◌∷◌, ◌++◌, length, drop, Ok, Err, refl, ap, append_assoc, arith}
+use Rattle.std.proofs.Common.{◌≡◌, ℕ, ◌+◌, ◌<◌, List, [], ◌∷◌, ◌++◌, length, drop, Ok, refl, ap, append_assoc, arith}
 use Rattle.std.proofs.lemmas.List.{length-drop, drop-drop}
 use Rattle.text.specs.Lines.{Line, skipped, row, feedback, ceases, front_byte, before, byte_then, bytes_from}
 
@@ -15,18 +15,13 @@ bytes_more at (s ∷ []) some = refl
 bytes_more at (s ∷ (h ∷ [])) some = refl
 bytes_more at (s ∷ (h ∷ (l ∷ cs))) some = refl
 
--- the bytes of a line from a place on
-pub bytes_from-drop :
+bytes_from-drop :
     (at : ℕ) (cs : List ℕ) → at < length cs →
     bytes_from at (drop at cs) ≡ byte_then at (front_byte (drop at cs)) (bytes_from (at + 3) (drop (at + 3) cs))
 bytes_from-drop at cs some = rw (← drop-drop 3 at cs) (bytes_more at (drop at cs) (simp length-drop (omega arith)))
 
--- bytes, with the one at a place, before those behind it
+-- bytes and the one at a place, before those behind it
 pub before_more :
-    (bs : List ℕ) (b at : ℕ) (cs : List ℕ) → at < length cs → front_byte (drop at cs) ≡ Ok b →
+    (bs : List ℕ) (b at : ℕ) (cs : List ℕ) → front_byte (drop at cs) ≡ Ok b → at < length cs →
     before (bs ++ b ∷ []) (bytes_from (at + 3) (drop (at + 3) cs)) ≡ before bs (bytes_from at (drop at cs))
-before_more bs b at cs some e = rw (bytes_from-drop at cs some, e) (before_append bs (b ∷ []) (bytes_from (at + 3) (drop (at + 3) cs)))
-
-pub ceases_at :
-    (n at : ℕ) (cs : List ℕ) → at < length cs → front_byte (drop at cs) ≡ Err n → bytes_from at (drop at cs) ≡ ceases (at + n)
-ceases_at n at cs some e = rw (bytes_from-drop at cs some, e)
+before_more bs b at cs e some = rw (bytes_from-drop at cs some, e) (before_append bs (b ∷ []) (bytes_from (at + 3) (drop (at + 3) cs)))

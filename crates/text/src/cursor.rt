@@ -1,5 +1,5 @@
 // A line that is read from left to right: bytes, as ` 0b`, and fields, as ` 0112`.
-ghost use Rattle.std.specs.Prelude.{◌≡◌, ◌≢◌, ◌↔◌, ℕ, ◌+◌, ◌<◌, ◌≤◌, IsTrue, drop, take, length, slice_index, IfSome, IfOk, IfErr, OnOk};
+ghost use Rattle.std.specs.Prelude.{◌≡◌, ◌≢◌, ◌↔◌, ℕ, ◌+◌, ◌<◌, ◌≤◌, IsTrue, drop, length, slice_index, IfSome, IfOk, IfErr, OnOk};
 ghost use Rattle.text.specs.Fields.{digit, digit_below, run, field_end, digits_of};
 ghost use Rattle.text.specs.Lines.{front_byte};
 
@@ -69,7 +69,8 @@ impl<'a> Cursor<'a> {
 
     // The digits of a field, a blank and at least one digit below a radix.
     pub(crate) fn field(&mut self, radix: u8) -> Result<&'a [u8], Misfit>
-        ensures ok { IfOk result (λ d. (field_end self.old.text.now self.old.at radix ≡ Ok self.new.at) × (d.now ≡ digits_of self.old.text.now self.old.at self.new.at)) }
+        ensures ok { OnOk result (field_end self.old.text.now self.old.at radix ≡ Ok self.new.at) }
+        ensures digits { IfOk result (λ d. d.now ≡ digits_of self.old.text.now self.old.at self.new.at) }
         ensures err { IfErr result (λ m. field_end self.old.text.now self.old.at radix ≡ Err m.place) }
         ensures text { self.new.text.now ≡ self.old.text.now }
     {
