@@ -1,6 +1,6 @@
 -- How the bytes of a line are read, one after another. Assumes nothing.
-use Rattle.std.proofs.Common.{◌≡◌, ℕ, ◌+◌, ◌-◌, ◌<◌, ◌≤◌, List, [], ◌∷◌, ◌++◌, length, take, drop, Ok, Err, Result, refl, ap, append_assoc, arith}
-use Rattle.std.proofs.lemmas.List.{append-nil, take_rest, length-drop, drop-drop, drop_all}
+use Rattle.std.proofs.Common.{◌≡◌, ℕ, ◌+◌, ◌<◌, List, [], ◌∷◌, ◌++◌, length, drop, Ok, refl, ap, append_assoc, arith}
+use Rattle.std.proofs.lemmas.List.{length-drop, drop-drop}
 use Rattle.text.specs.Lines.{Line, skipped, row, feedback, ceases, front_byte, before, byte_then, bytes_from}
 
 before_append : (bs cs : List ℕ) (l : Line) → before (bs ++ cs) l ≡ before bs (before cs l)
@@ -15,28 +15,13 @@ bytes_more at (s ∷ []) some = refl
 bytes_more at (s ∷ (h ∷ [])) some = refl
 bytes_more at (s ∷ (h ∷ (l ∷ cs))) some = refl
 
--- a text that is read from a place on
-module _ (cs : List ℕ) (start : ℕ) where
-  -- some bytes, before those from a further place on, are all of them
-  abbrev pub SoFar : List ℕ → ℕ → Type 0
-  SoFar bs at = before bs (bytes_from at (drop at cs)) ≡ bytes_from start (drop start cs)
+bytes_from-drop :
+    (at : ℕ) (cs : List ℕ) → at < length cs →
+    bytes_from at (drop at cs) ≡ byte_then at (front_byte (drop at cs)) (bytes_from (at + 3) (drop (at + 3) cs))
+bytes_from-drop at cs some = rw (← drop-drop 3 at cs) (bytes_more at (drop at cs) (simp length-drop (omega arith)))
 
-  -- the bytes from a place on, by what the part of the text there is read as
-  from_part :
-      (at : ℕ) (r : Result ℕ ℕ) → at < length cs → r ≡ front_byte (take (length cs - at) (drop at cs)) →
-      bytes_from at (drop at cs) ≡ byte_then at r (bytes_from (at + 3) (drop (at + 3) cs))
-  from_part at r some e = rw (e, take_rest, ← drop-drop 3 at cs) (bytes_more at (drop at cs) (simp length-drop (omega arith)))
-
-  pub so_far_more :
-      (bs bs' : List ℕ) (at b : ℕ) → SoFar bs at → at < length cs → Ok b ≡ front_byte (take (length cs - at) (drop at cs)) →
-      bs' ≡ bs ++ b ∷ [] → SoFar bs' (at + 3)
-  so_far_more bs bs' at b inv some e pushed =
-      cc (from_part at (Ok b) some e, before_append bs (b ∷ []) (bytes_from (at + 3) (drop (at + 3) cs)))
-
-  pub so_far_ceases :
-      (bs : List ℕ) (at n : ℕ) → SoFar bs at → at < length cs → Err n ≡ front_byte (take (length cs - at) (drop at cs)) →
-      ceases (at + n) ≡ bytes_from start (drop start cs)
-  so_far_ceases bs at n inv some e = cc (from_part at (Err n) some e)
-
-  pub so_far_all : (bs : List ℕ) (at : ℕ) → SoFar bs at → length cs ≤ at → row bs ≡ bytes_from start (drop start cs)
-  so_far_all bs at inv end = cc (drop_all at cs end, append-nil bs)
+-- bytes and the one at a place, before those behind it
+pub before_more :
+    (bs : List ℕ) (b at : ℕ) (cs : List ℕ) → front_byte (drop at cs) ≡ Ok b → at < length cs →
+    before (bs ++ b ∷ []) (bytes_from (at + 3) (drop (at + 3) cs)) ≡ before bs (bytes_from at (drop at cs))
+before_more bs b at cs e some = rw (bytes_from-drop at cs some, e) (before_append bs (b ∷ []) (bytes_from (at + 3) (drop (at + 3) cs)))

@@ -1,6 +1,7 @@
 -- The fields of a line, each a blank and then digits. Assumes nothing: these are definitions.
-use Rattle.std.specs.Prelude.{ℕ, suc, ◌+◌, ◌-◌, ◌*◌, ◌<◌, ◌≤◌, min, Bool, false, ◌&&◌, List, [], ◌∷◌, length, take, drop, Some, None, Ok, Err, Option, Result, ◌==◌, nat_le, nat_lt, slice_index}
+use Rattle.std.specs.Prelude.{ℕ, ◌+◌, ◌-◌, ◌*◌, min, Bool, false, ◌&&◌, List, length, take, drop, Some, None, Ok, Err, Option, Result, ◌==◌, nat_le, nat_lt, slice_index, fold}
 use Rattle.std.specs.Option.{unwrap_or}
+use Rattle.std.specs.List.{prefix_len}
 use Rattle.codes.specs.Codes.{pick}
 
 -- the value of a hexadecimal digit
@@ -23,8 +24,7 @@ digit_below base c = below base (digit c)
 
 -- how many characters at the front of a text are such digits
 abbrev pub run : ℕ → List ℕ → ℕ
-run base [] = 0
-run base (c ∷ cs) = pick (digit_below base c) (suc (run base cs)) 0
+run base cs = prefix_len (digit_below base) cs
 
 -- the place behind so many digits from a place on, or that place if there are none
 abbrev pub behind : ℕ → ℕ → Result ℕ ℕ
@@ -51,18 +51,10 @@ field_ends cs start =
     and_then (field_end cs code 16) (λ guess.
     pick (guess == length cs) (Ok (pegs, colours, code, guess)) (Err guess)))))
 
--- each field ends behind the one before it, and none behind the text
-abbrev pub InOrder : ℕ → ℕ → Ends → Type 0
-InOrder start end e = (start < e.0) × (e.0 < e.1) × (e.1 < e.2) × (e.2 < e.3) × (e.3 ≤ end)
-
 -- the digits of a field that begins at a place and ends at another
 abbrev pub digits_of : List ℕ → ℕ → ℕ → List ℕ
 digits_of cs at end = take (end - (at + 1)) (drop (at + 1) cs)
 
--- the number that decimal digits write, after those of a number n; one above 255 is taken as 255
-abbrev pub number_after : ℕ → List ℕ → ℕ
-number_after n [] = n
-number_after n (c ∷ cs) = number_after (min (10 * n + value c) 255) cs
-
+-- the number that decimal digits write; one above 255 is taken as 255
 abbrev pub number_in : List ℕ → ℕ
-number_in cs = number_after 0 cs
+number_in cs = fold (λ n c. min (10 * n + value c) 255) 0 cs

@@ -1,6 +1,7 @@
 -- What a line of text asks: a row of bytes, as in `bytes 00 01 00 00 01`, or feedback, as in `feedback 4 3 0112 1011`.
 -- Assumes nothing: these are definitions.
-use Rattle.std.specs.Prelude.{ℕ, suc, ◌+◌, ◌*◌, max, Bool, true, false, ◌&&◌, ◌||◌, List, [], ◌∷◌, ◌++◌, map, drop, Some, None, Ok, Err, codes, Option, Result, ◌==◌, slice_index}
+use Rattle.std.specs.Prelude.{ℕ, ◌+◌, ◌*◌, max, Bool, true, false, ◌||◌, List, [], ◌∷◌, ◌++◌, map, drop, Some, None, Ok, Err, codes, Option, Result, ◌==◌, slice_index}
+use Rattle.std.specs.List.{list_all, prefix_len, zip}
 use Rattle.codes.specs.Codes.{pick}
 use Rattle.text.specs.Fields.{digit, value, Ends, field_ends, digits_of, number_in}
 
@@ -17,8 +18,7 @@ abbrev pub white : ℕ → Bool
 white c = c == 32 || c == 9 || c == 13
 
 abbrev pub blank : List ℕ → Bool
-blank [] = true
-blank (c ∷ cs) = white c && blank cs
+blank cs = list_all white cs
 
 abbrev pub comment : List ℕ → Bool
 comment [] = false
@@ -26,9 +26,7 @@ comment (c ∷ cs) = c == 35
 
 -- how far a text goes along with a word
 abbrev pub along : List ℕ → List ℕ → ℕ
-along [] cs = 0
-along (w ∷ ws) [] = 0
-along (w ∷ ws) (c ∷ cs) = pick (w == c) (suc (along ws cs)) 0
+along ws cs = prefix_len (λ (p : ℕ × ℕ). p.0 == p.1) (zip ws cs)
 
 -- the byte of a blank, a high digit and a low one, or how much of them is there
 abbrev pub byte_of : Bool → Option ℕ → Option ℕ → Result ℕ ℕ

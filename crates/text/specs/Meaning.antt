@@ -1,12 +1,22 @@
 -- What the types of the code stand for. Assumes nothing: these are definitions.
-use Rattle.std.specs.Prelude.{vec_items}
+use Rattle.std.specs.Prelude.{◌≡◌, Option, Some, None, vec_items}
 use Rattle.text.specs.Lines as lines
 use Rattle.text.specs.declared.line.Line.{Line}
-use Rattle.text.specs.declared.line.Line.TheVariants.{Skipped, Row, Feedback, Unreadable}
+use Rattle.text.specs.declared.line.Line.TheVariants.{Row, Feedback}
+use Rattle.text.specs.declared.line.LineError.{LineError}
+use Rattle.text.specs.declared.line.LineError.TheVariants.{Unreadable, OutOfMemory}
 
 -- each case of a line, with what it holds
 abbrev pub means : Line → lines.Line
-means Skipped = lines.skipped
 means (Row bytes) = lines.row (vec_items bytes)
 means (Feedback pegs colours code guess) = lines.feedback pegs colours (vec_items code) (vec_items guess)
-means (Unreadable place) = lines.ceases place
+
+-- the same; no line is one that is passed over
+abbrev pub asks : Option Line → lines.Line
+asks None = lines.skipped
+asks (Some l) = means l
+
+-- a line that ceases to be one at the place that an error names; running out of memory says nothing of the line
+abbrev pub Refuses : LineError → lines.Line → Type 0
+Refuses (Unreadable place) l = lines.ceases place ≡ l
+Refuses OutOfMemory l = Unit {0}

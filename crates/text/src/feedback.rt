@@ -1,100 +1,46 @@
-// A line of feedback, as `feedback 4 3 0112 1011`: four fields, each a blank and then digits.
-ghost use Rattle.std.specs.Prelude.{◌≡◌, ◌<◌, ◌≤◌, map, length, IfOk};
-ghost use Rattle.text.specs.Fields.{value, digit_below, run, field_end, field_ends, InOrder, number_in};
+// A line of feedback, as `feedback 4 3 0112 1011`: pegs, colours, a code and a guess.
+ghost use Rattle.std.specs.Prelude.{◌≡◌, map, IfOk, IfErr};
+ghost use Rattle.text.specs.Fields.{value, number_in};
 ghost use Rattle.text.specs.Lines.{feedback_from};
-ghost use Rattle.text.specs.Meaning.{means};
+ghost use Rattle.text.specs.Meaning.{means, Refuses};
 
-use crate::Line;
-use crate::line::hex_digit;
+use crate::cursor::{Cursor, hex_digit};
+use crate::{Line, LineError};
 use std::alloc::{AllocError, Global};
 
-// Where pegs, colours, code and guess end.
-type Ends = (usize, usize, usize, usize);
-
-// The feedback whose fields fill a text from a place on.
-pub(crate) fn read_feedback(heap: Global, text: &[u8], start: usize) -> Result<Line, AllocError>
-    ensures { IfOk result (λ l. means l ≡ feedback_from start text.now) }
+// The feedback whose fields fill a line from the cursor on.
+pub(crate) fn read_feedback(heap: Global, mut line: Cursor) -> Result<Line, LineError>
+    ensures ok { IfOk result (λ l. means l ≡ feedback_from line.entry.at line.entry.text.now) }
+    ensures err { IfErr result (λ e. Refuses e (feedback_from line.entry.at line.entry.text.now)) }
 {
-    match field_ends(text, start) {
-        Ok((pegs, colours, code, guess)) => Ok(Line::Feedback {
-            pegs: number(&text[start + 1..pegs]),
-            colours: number(&text[pegs + 1..colours]),
-            code: row(heap, &text[colours + 1..code])?,
-            guess: row(heap, &text[code + 1..guess])?,
-        }),
-        Err(place) => Ok(Line::Unreadable { place }),
-    }
-}
-
-// Where the fields end that fill a text from a place on, or the first place that does not fit.
-fn field_ends(text: &[u8], start: usize) -> Result<Ends, usize>
-    ensures places { result ≡ field_ends text.now start }
-    ensures order { IfOk result (InOrder start (length text.now)) }
-{
-    let pegs = field_end(text, start, 10)?;
-    let colours = field_end(text, pegs, 10)?;
-    let code = field_end(text, colours, 16)?;
-    let guess = field_end(text, code, 16)?;
-    if guess != text.len() {
-        return Err(guess);
-    }
-    Ok((pegs, colours, code, guess))
-}
-
-// The place behind the field that begins at a place, or the place that does not fit.
-fn field_end(text: &[u8], at: usize, base: u8) -> Result<usize, usize>
-    ensures place { result ≡ field_end text.now at base }
-    ensures within { IfOk result (λ e. (at < e) × (e ≤ length text.now)) }
-{
-    if at >= text.len() || text[at] != b' ' {
-        return Err(at);
-    }
-    let digits = digit_run(&text[at + 1..], base);
-    if digits == 0 {
-        return Err(at + 1);
-    }
-    Ok(at + 1 + digits)
-}
-
-// How many characters at the front of a text are digits below a base.
-fn digit_run(text: &[u8], base: u8) -> usize
-    ensures count { result ≡ run base text.now }
-    ensures bound { result ≤ length text.now }
-{
-    for (n, c) in text.iter().enumerate() {
-        if !is_digit(*c, base) {
-            return n;
-        }
-    }
-    text.len()
-}
-
-fn is_digit(c: u8, base: u8) -> bool
-    ensures { result ≡ digit_below base c }
-{
-    matches!(hex_digit(c), Some(d) if d < base)
+    let pegs = line.field(10)?;
+    let colours = line.field(10)?;
+    let code = line.field(16)?;
+    let guess = line.field(16)?;
+    line.end()?;
+    Ok(Line::Feedback {
+        pegs: number(pegs),
+        colours: number(colours),
+        code: row(heap, code)?,
+        guess: row(heap, guess)?,
+    })
 }
 
 // The number that decimal digits write, and 255 of a larger one.
 fn number(digits: &[u8]) -> u8
     ensures { result ≡ number_in digits.now }
 {
-    let mut n = 0u8;
-    for c in digits {
-        n = n.saturating_mul(10).saturating_add(digit_value(*c));
-    }
-    n
+    digits.iter().fold(
+        0u8,
+        |n, c| n.saturating_mul(10).saturating_add(digit_value(*c)),
+    )
 }
 
 // The values of digits.
 fn row(heap: Global, digits: &[u8]) -> Result<Vec<u8>, AllocError>
     ensures { IfOk result (λ v. v.items ≡ map value digits.now) }
 {
-    let mut row = Vec::new(heap);
-    for c in digits {
-        row.push(digit_value(*c))?;
-    }
-    Ok(row)
+    digits.iter().map(|c| digit_value(*c)).collect(heap)
 }
 
 // The value of a digit, and 0 of any other character.

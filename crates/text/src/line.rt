@@ -1,17 +1,16 @@
 // What a line of text asks.
-ghost use Rattle.std.specs.Prelude.{◌≡◌, ◌<◌, drop, IfSome, IfOk, slice_index};
-ghost use Rattle.text.specs.Fields.{digit};
-ghost use Rattle.text.specs.Lines.{white, blank, comment, along, front_byte, bytes_from, line_of};
-ghost use Rattle.text.specs.Meaning.{means};
+ghost use Rattle.std.specs.Prelude.{◌≡◌, ◌≤◌, drop, length, IfOk, IfErr};
+ghost use Rattle.text.specs.Lines.{white, blank, comment, along, bytes_from, line_of};
+ghost use Rattle.text.specs.Meaning.{means, asks, Refuses};
+ghost use Rattle.text.specs.declared.line.LineError.TheVariants.{Unreadable, OutOfMemory};
 
+use crate::cursor::{Cursor, Misfit};
 use crate::feedback::read_feedback;
-use std::alloc::{AllocError, Global};
+use std::alloc::{AllocError, AllocFailed, Global};
 
-// Nothing, since the line is blank or a comment; a row of bytes; how many pegs and colours a game has, with a code and
-// a guess; or none of these, since it ceases to be such a line at a place.
+// A row of bytes; or how many pegs and colours a game has, with a code and a guess.
 #[derive(Drop)]
 pub enum Line {
-    Skipped,
     Row(Vec<u8>),
     Feedback {
         pegs: u8,
@@ -19,9 +18,39 @@ pub enum Line {
         code: Vec<u8>,
         guess: Vec<u8>,
     },
-    Unreadable {
-        place: usize,
-    },
+}
+
+// Why a line is not read: it ceases to be one at a place, or memory ran out.
+#[derive(Clone, Copy, Debug, PartialEq, Eq)]
+pub enum LineError {
+    Unreadable { place: usize },
+    OutOfMemory,
+}
+
+impl From<Misfit> for LineError {
+    ghost from_gives = { λ m e. e ≡ Unreadable m.place };
+
+    fn from(misfit: Misfit) -> LineError {
+        LineError::Unreadable {
+            place: misfit.place,
+        }
+    }
+}
+
+impl From<AllocError> for LineError {
+    ghost from_gives = { λ _ e. e ≡ OutOfMemory };
+
+    fn from(_e: AllocError) -> LineError {
+        LineError::OutOfMemory
+    }
+}
+
+impl<T: Drop> From<AllocFailed<T>> for LineError {
+    ghost from_gives = { λ _ e. e ≡ OutOfMemory };
+
+    fn from(_e: AllocFailed<T>) -> LineError {
+        LineError::OutOfMemory
+    }
 }
 
 // The words that a line of bytes and one of feedback begin with.
@@ -30,23 +59,25 @@ const BYTES: [u8; 5] = *b"bytes";
 const FEEDBACK: [u8; 8] = *b"feedback";
 
 impl Line {
-    // What a line asks, its line feed taken off.
-    pub fn read(heap: Global, text: &[u8]) -> Result<Line, AllocError>
-        ensures { IfOk result (λ l. means l ≡ line_of text.now) }
+    // What a line asks, its line feed taken off; none if it is passed over, being blank or a comment.
+    pub fn read(heap: Global, text: &[u8]) -> Result<Option<Line>, LineError>
+        ensures ok { IfOk result (λ l. asks l ≡ line_of text.now) }
+        ensures err { IfErr result (λ e. Refuses e (line_of text.now)) }
     {
         if is_blank(text) || is_comment(text) {
-            return Ok(Line::Skipped);
+            return Ok(None);
         }
         let bytes = common_prefix(&BYTES, text);
         if bytes == BYTES.len() {
-            return read_bytes(heap, text, BYTES.len());
+            return Ok(Some(read_bytes(heap, Cursor::new(text, bytes))?));
         }
         let feedback = common_prefix(&FEEDBACK, text);
-        if feedback != FEEDBACK.len() {
-            let place = bytes.max(feedback);
-            return Ok(Line::Unreadable { place });
+        if feedback == FEEDBACK.len() {
+            return Ok(Some(read_feedback(heap, Cursor::new(text, feedback))?));
         }
-        read_feedback(heap, text, FEEDBACK.len())
+        Err(LineError::Unreadable {
+            place: bytes.max(feedback),
+        })
     }
 }
 
@@ -61,12 +92,7 @@ fn is_white(c: u8) -> bool
 fn is_blank(text: &[u8]) -> bool
     ensures { result ≡ blank text.now }
 {
-    for c in text {
-        if !is_white(*c) {
-            return false;
-        }
-    }
-    true
+    text.iter().all(|c| is_white(*c))
 }
 
 // A line that begins with #.
@@ -78,63 +104,20 @@ fn is_comment(text: &[u8]) -> bool
 
 // How far a text goes along with a word.
 fn common_prefix(word: &[u8], text: &[u8]) -> usize
-    ensures { result ≡ along word.now text.now }
+    ensures along { result ≡ along word.now text.now }
+    ensures bound { result ≤ length text.now }
 {
-    let mut n = 0;
-    while n < word.len() && n < text.len() && word[n] == text[n] {
-        n += 1;
-    }
-    n
+    word.iter().zip(text).take_while(|(w, c)| w == c).count()
 }
 
-// The bytes of a text from a place on, each a blank and two digits.
-fn read_bytes(heap: Global, text: &[u8], start: usize) -> Result<Line, AllocError>
-    ensures { IfOk result (λ l. means l ≡ bytes_from start (drop start text.now)) }
+// The bytes of a line from the cursor on, each a blank and two digits.
+fn read_bytes(heap: Global, mut line: Cursor) -> Result<Line, LineError>
+    ensures ok { IfOk result (λ l. means l ≡ bytes_from line.entry.at (drop line.entry.at line.entry.text.now)) }
+    ensures err { IfErr result (λ e. Refuses e (bytes_from line.entry.at (drop line.entry.at line.entry.text.now))) }
 {
     let mut row = Vec::new(heap);
-    let mut at = start;
-    while at < text.len() {
-        match first_byte(&text[at..]) {
-            Ok(byte) => row.push(byte)?,
-            Err(n) => return Ok(Line::Unreadable { place: at + n }),
-        }
-        at += 3;
+    while !line.is_done() {
+        row.push(line.byte()?)?;
     }
     Ok(Line::Row(row))
-}
-
-// The byte of a blank and two digits at the front of a text, or how much of them stands there.
-fn first_byte(text: &[u8]) -> Result<u8, usize>
-    ensures { result ≡ front_byte text.now }
-{
-    if character(text, 0) != b' ' {
-        return Err(0);
-    }
-    let Some(high) = hex_digit(character(text, 1)) else {
-        return Err(1);
-    };
-    let Some(low) = hex_digit(character(text, 2)) else {
-        return Err(2);
-    };
-    Ok(16 * high + low)
-}
-
-// What stands at a place of a text, and 0 past its end.
-fn character(text: &[u8], place: usize) -> u8
-    ensures { result ≡ slice_index text.now place }
-{
-    if place < text.len() { text[place] } else { 0 }
-}
-
-// The value of a hexadecimal digit.
-pub(crate) fn hex_digit(c: u8) -> Option<u8>
-    ensures value { result ≡ digit c }
-    ensures bound { IfSome result (λ d. d < 16) }
-{
-    match c {
-        b'0'..=b'9' => Some(c - b'0'),
-        b'a'..=b'f' => Some(c - b'a' + 10),
-        b'A'..=b'F' => Some(c - b'A' + 10),
-        _ => None,
-    }
 }
