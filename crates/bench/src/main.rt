@@ -15,11 +15,10 @@ const RUNS: u32 = 100;
 fn checksum(table: &[u8]) -> u32
     ensures { result ≡ all_mixed table.now }
 {
-    let mut sum = 0u32;
-    for byte in table {
-        sum = sum.wrapping_mul(31).wrapping_add(*byte as u32);
-    }
-    sum
+    table.iter().fold(
+        0u32,
+        |sum, byte| sum.wrapping_mul(31).wrapping_add(*byte as u32),
+    )
 }
 
 // Makes a game's table again and again, and prints its checksum and the least seconds that it took.

@@ -9,7 +9,7 @@ ghost use Rattle.wire.specs.Meaning.{refusal_number};
 
 use codes::Game;
 use std::alloc::{AllocError, Global};
-use text::{InWords, Line, Refused, Told};
+use text::{InWords, Line, LineError, Refused, Told};
 use wire::{Call, Refusal};
 
 // The reply to a line; none for one that is passed over.
@@ -17,19 +17,28 @@ pub fn reply_to(heap: Global, line: &[u8]) -> Result<Option<String>, AllocError>
     ensures { IfOk result (λ s. option_map string_bytes s ≡ reply_to line.now) }
 {
     let line = without(without(line, b'\n'), b'\r');
-    match Line::read(heap, line)? {
-        Line::Skipped => Ok(None),
-        Line::Row(row) => Ok(Some(reply_to_row(heap, row.as_slice())?)),
-        Line::Feedback {
-            pegs,
-            colours,
-            code,
-            guess,
-        } => {
-            Ok(Some(reply_to_feedback(heap, pegs, colours, code.as_slice(), guess.as_slice())?))
+    let reply = match Line::read(heap, line) {
+        Ok(None) => return Ok(None),
+        Ok(Some(Line::Row(row))) => reply_to_row(heap, row.as_slice())?,
+        Ok(
+            Some(
+                Line::Feedback {
+                    pegs,
+                    colours,
+                    code,
+                    guess,
+                },
+            ),
+        ) => {
+            match told(pegs, colours, code.as_slice(), guess.as_slice()) {
+                Ok(told) => told.to_string(heap)?,
+                Err(refused) => refusal(heap, refused, 0)?,
+            }
         }
-        Line::Unreadable { place } => Ok(Some(refusal(heap, Refusal::Unreadable, place)?)),
-    }
+        Err(LineError::Unreadable { place }) => refusal(heap, Refusal::Unreadable, place)?,
+        Err(LineError::OutOfMemory) => return Err(AllocError),
+    };
+    Ok(Some(reply))
 }
 
 // The call that a row of bytes is, or how it is refused.
@@ -39,22 +48,6 @@ fn reply_to_row(heap: Global, row: &[u8]) -> Result<String, AllocError>
     match Call::try_from(row) {
         Ok(call) => InWords(call).to_string(heap),
         Err(garbled) => refusal(heap, Refusal::Unreadable, garbled.place as usize),
-    }
-}
-
-// What a guess is told of a code, both given as rows of pegs, or how that is refused.
-fn reply_to_feedback(
-    heap: Global,
-    pegs: u8,
-    colours: u8,
-    code: &[u8],
-    guess: &[u8],
-) -> Result<String, AllocError>
-    ensures { IfOk result (λ s. string_bytes s ≡ told_of_rows (game_of pegs colours) code.now guess.now) }
-{
-    match told(pegs, colours, code, guess) {
-        Ok(told) => told.to_string(heap),
-        Err(refused) => refusal(heap, refused, 0),
     }
 }
 
@@ -82,8 +75,5 @@ fn refusal(heap: Global, refusal: Refusal, place: usize) -> Result<String, Alloc
 fn without(text: &[u8], last: u8) -> &[u8]
     ensures { result.now ≡ shortened last text.now }
 {
-    let [front @ .., c] = text else {
-        return text;
-    };
-    if *c == last { front } else { text }
+    text.strip_suffix(&[last]).unwrap_or(text)
 }
