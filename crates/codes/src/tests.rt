@@ -1,36 +1,30 @@
 // The rules by example: games, codes and their pegs, and what guesses are told.
 use crate::{Feedback, Game};
 use std::process::Abort;
-use std::test::Fail;
-
-fn taken(pegs: u8, colours: u8) -> Result<Game, Fail> {
-    Game::new(pegs, colours).ok_or_else(|| Fail::new("not taken"))
-}
 
 fn refused(rt: &impl Abort, pegs: u8, colours: u8) {
     assert!(rt; Game::new(pegs, colours).is_none());
 }
 
 // A number of pegs, the most colours that go with it, and how many codes that makes.
-fn largest(rt: &impl Abort, pegs: u8, colours: u8, codes: u16) -> Result<(), Fail> {
-    let game = taken(pegs, colours)?;
+fn largest(rt: &impl Abort, pegs: u8, colours: u8, codes: u16) {
+    let game = Game::new(pegs, colours).expect(rt, "taken");
     assert_eq!(rt; game.pegs(), pegs);
     assert_eq!(rt; game.colours(), colours);
     assert_eq!(rt; game.codes(), codes);
     refused(rt, pegs, colours.saturating_add(1));
-    Ok(())
 }
 
 #[test]
-fn the_largest_game_of_each_number_of_pegs(rt: HostRuntime) -> Result<(), Fail> {
-    largest(&rt, 1, 16, 16)?;
-    largest(&rt, 2, 16, 256)?;
-    largest(&rt, 3, 6, 216)?;
-    largest(&rt, 4, 4, 256)?;
-    largest(&rt, 5, 3, 243)?;
-    largest(&rt, 6, 2, 64)?;
-    largest(&rt, 7, 2, 128)?;
-    largest(&rt, 8, 2, 256)
+fn the_largest_game_of_each_number_of_pegs(rt: HostRuntime) {
+    largest(&rt, 1, 16, 16);
+    largest(&rt, 2, 16, 256);
+    largest(&rt, 3, 6, 216);
+    largest(&rt, 4, 4, 256);
+    largest(&rt, 5, 3, 243);
+    largest(&rt, 6, 2, 64);
+    largest(&rt, 7, 2, 128);
+    largest(&rt, 8, 2, 256);
 }
 
 #[test]
@@ -46,8 +40,8 @@ fn games_out_of_range_are_refused(rt: HostRuntime) {
 }
 
 #[test]
-fn a_code_and_its_pegs(rt: HostRuntime) -> Result<(), Fail> {
-    let game = taken(4, 3)?;
+fn a_code_and_its_pegs(rt: HostRuntime) {
+    let game = Game::new(4, 3).expect(&rt, "taken");
     assert_eq!(rt; game.pegs_of(66), [0, 1, 1, 2, 0, 0, 0, 0]);
     assert_eq!(rt; game.code_of(&[0, 1, 1, 2]), Some(66));
     assert_eq!(rt; game.pegs_of(80), [2, 2, 2, 2, 0, 0, 0, 0]);
@@ -57,50 +51,45 @@ fn a_code_and_its_pegs(rt: HostRuntime) -> Result<(), Fail> {
     assert_eq!(rt; game.code_of(&[0, 1, 1, 2, 0]), None);
     assert_eq!(rt; game.code_of(&[0, 1, 3, 2]), None);
     assert_eq!(rt; game.code_of(&[255, 1, 1, 2]), None);
-    Ok(())
 }
 
-fn tells(rt: &impl Abort, pegs: u8, code: &[u8], guess: &[u8], told: Feedback) -> Result<(), Fail> {
-    let game = taken(pegs, 3)?;
-    let (Some(code), Some(guess)) = (game.code_of(code), game.code_of(guess)) else {
-        return Err(Fail::new("no code"));
-    };
+fn tells(rt: &impl Abort, pegs: u8, code: &[u8], guess: &[u8], told: Feedback) {
+    let game = Game::new(pegs, 3).expect(rt, "taken");
+    let code = game.code_of(code).expect(rt, "a code");
+    let guess = game.code_of(guess).expect(rt, "a code");
     assert_eq!(rt; game.feedback(code, guess), told);
-    Ok(())
 }
 
 #[test]
-fn a_colour_twice_in_the_guess_and_once_in_the_code_counts_once(
-    rt: HostRuntime,
-) -> Result<(), Fail> {
+fn a_colour_twice_in_the_guess_and_once_in_the_code_counts_once(rt: HostRuntime) {
     tells(
         &rt,
         4,
         &[0, 1, 1, 2],
         &[1, 0, 1, 1],
         Feedback { right: 1, near: 2 },
-    )?;
+    );
     tells(
         &rt,
         3,
         &[0, 1, 2],
         &[1, 0, 0],
         Feedback { right: 0, near: 2 },
-    )?;
+    );
     tells(
         &rt,
         3,
         &[0, 1, 2],
         &[0, 0, 1],
         Feedback { right: 1, near: 1 },
-    )?;
+    );
     tells(
         &rt,
         3,
         &[1, 0, 0],
         &[0, 1, 2],
         Feedback { right: 0, near: 2 },
-    )
+    );
 }
 
 // What each guess is told of each code, ten times right and near, for 00 10 20 01 11 21 02 12 22.
@@ -117,8 +106,8 @@ const TWO_PEGS_OF_THREE: [[u16; 9]; 9] = [
 ];
 
 #[test]
-fn all_pairs_of_two_pegs_of_three_colours(rt: HostRuntime) -> Result<(), Fail> {
-    let game = taken(2, 3)?;
+fn all_pairs_of_two_pegs_of_three_colours(rt: HostRuntime) {
+    let game = Game::new(2, 3).expect(&rt, "taken");
     for (guess, row) in TWO_PEGS_OF_THREE.iter().enumerate() {
         for (code, expected) in row.iter().enumerate() {
             let told = game.feedback(code as u16, guess as u16);
@@ -126,12 +115,11 @@ fn all_pairs_of_two_pegs_of_three_colours(rt: HostRuntime) -> Result<(), Fail> {
             assert_eq!(rt; game.is_all_right(told), code == guess);
         }
     }
-    Ok(())
 }
 
 #[test]
-fn feedback_of_more_pegs_than_there_are(rt: HostRuntime) -> Result<(), Fail> {
-    let game = taken(4, 3)?;
+fn feedback_of_more_pegs_than_there_are(rt: HostRuntime) {
+    let game = Game::new(4, 3).expect(&rt, "taken");
     assert!(rt; game.allows(Feedback { right: 4, near: 0 }));
     assert!(rt; game.allows(Feedback { right: 0, near: 4 }));
     assert!(rt; game.allows(Feedback { right: 3, near: 1 }));
@@ -142,5 +130,4 @@ fn feedback_of_more_pegs_than_there_are(rt: HostRuntime) -> Result<(), Fail> {
             near: 255,
         })
     );
-    Ok(())
 }

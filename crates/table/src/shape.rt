@@ -6,7 +6,8 @@ ghost use Rattle.table.specs.Table.{size, row_at, entry_at};
 use crate::answers;
 use codes::Game;
 
-// So many codes, guesses and answers, and the number of the answer that is all right.
+// So many codes, guesses and answers, and the number of the answer that is all right. A table's bytes are lent anew at each
+// call, so they are no part of it.
 #[derive(Clone, Copy)]
 pub struct Shape {
     pub codes: u16,

@@ -1,29 +1,23 @@
 // Numbers and tables by example.
 use crate::{Shape, answers, look_up, tabulate};
 use codes::{Feedback, Game};
-use std::test::Fail;
-
-fn taken(pegs: u8, colours: u8) -> Result<Game, Fail> {
-    Game::new(pegs, colours).ok_or_else(|| Fail::new("not taken"))
-}
 
 #[test]
-fn how_many_answers_one_to_eight_pegs_have(rt: HostRuntime) -> Result<(), Fail> {
+fn how_many_answers_one_to_eight_pegs_have(rt: HostRuntime) {
     let counts = [3, 6, 10, 15, 21, 28, 36, 45];
     for (i, count) in counts.iter().enumerate() {
-        let shape = Shape::from(taken(i as u8 + 1, 2)?);
+        let shape = Shape::from(Game::new(i as u8 + 1, 2).expect(&rt, "taken"));
         assert_eq!(rt; shape.answers, *count);
         assert_eq!(rt; shape.all_right, *count - 1);
     }
-    Ok(())
 }
 
 // What two pegs can be told, in order.
 const TWO_PEGS: [(u8, u8); 6] = [(0, 0), (0, 1), (0, 2), (1, 0), (1, 1), (2, 0)];
 
 #[test]
-fn answers_go_by_right_and_then_near(rt: HostRuntime) -> Result<(), Fail> {
-    let game = taken(2, 3)?;
+fn answers_go_by_right_and_then_near(rt: HostRuntime) {
+    let game = Game::new(2, 3).expect(&rt, "taken");
     for (i, (right, near)) in TWO_PEGS.iter().enumerate() {
         let told = Feedback {
             right: *right,
@@ -46,35 +40,31 @@ fn answers_go_by_right_and_then_near(rt: HostRuntime) -> Result<(), Fail> {
         ),
         None
     );
-    Ok(())
 }
 
 #[test]
-fn one_peg_of_three_colours(rt: HostRuntime) -> Result<(), Fail> {
+fn one_peg_of_three_colours(rt: HostRuntime) {
     let mut table = [7; 9];
-    assert!(rt; tabulate(taken(1, 3)?, &mut table).is_some());
+    assert!(rt; tabulate(Game::new(1, 3).expect(&rt, "taken"), &mut table).is_some());
     assert_eq!(rt; table, [2, 0, 0, 0, 2, 0, 0, 0, 2]);
-    Ok(())
 }
 
 // Two pegs of two colours, a row for each of the guesses 00 10 01 11.
 const TWO_OF_TWO: [u8; 16] = [5, 3, 3, 0, 3, 5, 2, 3, 3, 2, 5, 3, 0, 3, 3, 5];
 
 #[test]
-fn what_lies_past_the_table_is_left_alone(rt: HostRuntime) -> Result<(), Fail> {
+fn what_lies_past_the_table_is_left_alone(rt: HostRuntime) {
     let mut table = [7; 18];
-    assert!(rt; tabulate(taken(2, 2)?, &mut table).is_some());
+    assert!(rt; tabulate(Game::new(2, 2).expect(&rt, "taken"), &mut table).is_some());
     assert_eq!(rt; &table[0..16], &TWO_OF_TWO[0..16]);
     assert_eq!(rt; &table[16..18], &[7, 7][0..2]);
-    Ok(())
 }
 
 #[test]
-fn bytes_that_are_too_few_are_left_alone(rt: HostRuntime) -> Result<(), Fail> {
+fn bytes_that_are_too_few_are_left_alone(rt: HostRuntime) {
     let mut table = [7; 15];
-    assert!(rt; tabulate(taken(2, 2)?, &mut table).is_none());
+    assert!(rt; tabulate(Game::new(2, 2).expect(&rt, "taken"), &mut table).is_none());
     assert_eq!(rt; table, [7; 15]);
-    Ok(())
 }
 
 // Three pegs of two colours, a row for each of the guesses 000 100 010 110 001 101 011 111.
@@ -90,28 +80,25 @@ const THREE_OF_TWO: [[u8; 8]; 8] = [
 ];
 
 #[test]
-fn three_pegs_of_two_colours(rt: HostRuntime) -> Result<(), Fail> {
+fn three_pegs_of_two_colours(rt: HostRuntime) {
     let mut table = [0; 64];
-    let Some(shape) = tabulate(taken(3, 2)?, &mut table) else {
-        return Err(Fail::new("too few bytes"));
-    };
+    let game = Game::new(3, 2).expect(&rt, "taken");
+    let shape = tabulate(game, &mut table).expect(&rt, "bytes enough");
     for (guess, expected) in THREE_OF_TWO.iter().enumerate() {
         let row = shape.row(&table, guess as u16);
         assert_eq!(rt; row, Some(&expected[..]));
     }
-    Ok(())
 }
 
 #[test]
-fn what_is_told_of_a_code_is_looked_up(rt: HostRuntime) -> Result<(), Fail> {
-    let game = taken(2, 2)?;
+fn what_is_told_of_a_code_is_looked_up(rt: HostRuntime) {
+    let game = Game::new(2, 2).expect(&rt, "taken");
     let told = Feedback { right: 0, near: 2 };
     assert_eq!(rt; look_up(game, &TWO_OF_TWO, 1, 2), Some(told));
     assert_eq!(rt; look_up(game, &TWO_OF_TWO, 4, 2), None);
     assert_eq!(rt; look_up(game, &TWO_OF_TWO, 1, 4), None);
     assert_eq!(rt; look_up(game, &TWO_OF_TWO[0..15], 1, 2), None);
     assert_eq!(rt; look_up(game, &[6; 16], 1, 2), None);
-    Ok(())
 }
 
 #[test]

@@ -43,7 +43,8 @@ fn row(heap: Global, digits: &[u8]) -> Result<Vec<u8>, AllocError>
     digits.iter().map(|c| digit_value(*c)).collect(heap)
 }
 
-// The value of a digit, and 0 of any other character.
+// The value of a digit, and 0 of any other character. A field has digits alone; to leave the 0 out, three contracts would have to
+// say so.
 fn digit_value(c: u8) -> u8
     ensures { result ≡ value c }
 {

@@ -38,7 +38,7 @@ impl fmt::Display for Told {
     }
 }
 
-// A refusal as it is printed.
+// A refusal as it is printed, whatever its number: one that was read may have any.
 #[derive(Clone, Copy)]
 pub struct Refused {
     pub number: u32,

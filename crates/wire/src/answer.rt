@@ -9,7 +9,8 @@ ghost use Rattle.wire.specs.Rows.{values, low_first};
 use crate::refusal::Refusal;
 use crate::row::{Garbled, TooShort, misfit, put};
 
-// What a desk answers, by the numbers 0 to 2: a refusal's number and its place; a number; two numbers.
+// What a desk answers, by the numbers 0 to 2: a refusal's number and its place; a number; two numbers. A refusal that is read
+// may have any number of four bytes, so it is no `Refusal`.
 #[derive(Clone, Copy, Debug, PartialEq, Eq)]
 pub enum Answer {
     Refused { number: u32, place: u32 },
@@ -17,7 +18,7 @@ pub enum Answer {
     Two(u32, u32),
 }
 
-// How many bytes each answer has, by its number.
+// How many bytes each answer has, by its number, the format's first byte as in a call.
 const LENGTHS: [u8; 3] = [9, 5, 9];
 
 // The answer that a row of bytes is, or the first byte that does not fit.

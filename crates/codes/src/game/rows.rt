@@ -6,7 +6,7 @@ ghost use Rattle.codes.specs.Pegs.{code_of};
 use crate::game::Game;
 
 impl Game {
-    // The pegs of a code, the first peg first, and 0 behind them.
+    // The pegs of a code, the first peg first, and 0 behind them: an array, since nothing here allocates.
     pub fn pegs_of(self, code: u16) -> [u8; 8]
         ensures pegs { take self.pegs result ≡ pegs_of self code }
         ensures rest { drop self.pegs result ≡ replicate (8 - self.pegs) 0 }
