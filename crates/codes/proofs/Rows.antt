@@ -91,10 +91,6 @@ module _ (c : ℕ) (xs : List ℕ) where
       let few : c ≤ 16 = omega arith in
       mul-le-mul {n₂ = 255} (omega (arith, k.number)) few
 
-  pub numbered_all : (rest : List ℕ) (n : ℕ) → Numbered rest n → length rest ≡ 0 → (n ≡ number_of c xs) × (coloured c xs ≡ true)
-  numbered_all [] n k end = (rw (← k.whole) k.number, rw (← k.whole) k.colours)
-  numbered_all (x ∷ rest) n k end = absurd (omega arith)
-
   -- a peg of another colour makes no row of the game
   pub not_coloured : (rest rest' : List ℕ) (x n : ℕ) → Numbered rest n → rest ≡ rest' ++ x ∷ [] → c ≤ x → coloured c xs ≡ false
   not_coloured rest rest' x n k e high = rw (← parted rest rest' x n k e) (coloured_part c rest' x k.last high)

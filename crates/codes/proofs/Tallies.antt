@@ -1,6 +1,6 @@
 -- How the pegs of a row are counted by their colours, one after another. Assumes nothing.
-use Rattle.std.proofs.Common.{◌≡◌, ℕ, zero, suc, ◌+◌, ◌<◌, ◌≤◌, min, eqb, List, [], ◌∷◌, ◌++◌, map, length, get_or, take, drop, set, replicate, sym, refl, ap, ◌∙◌, inl, inr, add-one, arith}
-use Rattle.std.proofs.lemmas.List.{length-set, get_or-set_same, get_or-set_other, get_or-replicate, at_drop_more, at_drop_all}
+use Rattle.std.proofs.Common.{◌≡◌, ℕ, zero, suc, ◌+◌, ◌<◌, ◌≤◌, min, eqb, List, [], ◌∷◌, ◌++◌, map, length, get_or, take, drop, set, sym, refl, ap, ◌∙◌, inl, inr, add-one, arith}
+use Rattle.std.proofs.lemmas.List.{length-set, get_or-set_same, get_or-set_other, at_drop_more, at_drop_all}
 use Rattle.std.proofs.lemmas.Bool.Decides.{eqb_tells, nat_tests}
 use Rattle.std.specs.List.{zip, sum, sum_by}
 use Rattle.std.proofs.lemmas.List.{take_more, length-take-le}
@@ -31,9 +31,6 @@ module _ (row : List ℕ) where
   pub record Tallied (i : ℕ) (counts : List ℕ) : Type 0 where
     pub long : length counts ≡ 16
     pub each : (c : ℕ) → c < 16 → get_or counts c 0 + of_colour c (drop i row) ≡ of_colour c row
-
-  pub tallied_none : Tallied 0 (replicate 16 0)
-  tallied_none = record { long = refl; each = λ c h. omega (arith, get_or-replicate {A = ℕ} 16 c 0 0 h) }
 
   -- a colour of which a peg is to come has been counted fewer times than there are pegs
   pub tally_lt :

@@ -1,6 +1,6 @@
 use Rattle.std.proofs.Common.{rules}
 use Rattle.codes.proofs.Digits.{colour_at}
-use Rattle.codes.proofs.Tallies.{tallied_none, tallied_more, tallied_all, tally_lt}
+use Rattle.codes.proofs.Tallies.{tallied_more, tallied_all, tally_lt}
 use Rattle.codes.proofs.feedback.tally.Goals as goal
 
 pub bounds-counts-peg : goal.bounds-counts-peg
@@ -14,9 +14,6 @@ overflow_add-counts c =
 
 pub bounds-counts-peg-in-loop-peg : goal.bounds-counts-peg-in-loop-peg
 bounds-counts-peg-in-loop-peg c = colour_at _ _ _ c.requires.known c.loop-peg-test.true
-
-pub loop-peg-init : goal.loop-peg-init
-loop-peg-init c = tallied_none _
 
 pub loop-peg-preserved : goal.loop-peg-preserved
 loop-peg-preserved c =

@@ -1,6 +1,6 @@
 use Rattle.std.proofs.Common.{arith, rules}
 use Rattle.std.proofs.lemmas.Bool.Decides.{nat_tests}
-use Rattle.codes.proofs.Rows.{numbered_none, numbered_more, numbered_fits, numbered_all, not_coloured}
+use Rattle.codes.proofs.Rows.{numbered_none, numbered_more, numbered_fits, not_coloured}
 use Rattle.codes.proofs.game.Game.code_of.Goals as goal
 
 pub loop-peg-init : goal.loop-peg-init
@@ -24,8 +24,3 @@ overflow_add-code c =
 
 pub loop-peg-preserved : goal.loop-peg-preserved
 loop-peg-preserved c = numbered_more _ _ _ _ _ _ c.loop-peg.invariant c.in-Some.ensures.steps c.if-peg-colours.false
-
-pub returns : goal.returns
-returns c =
-    let all = numbered_all _ _ _ _ c.loop-peg.invariant c.in-None.ensures.steps.0 in
-    grind (arith, nat_tests, c.colours-colours.ensures)
