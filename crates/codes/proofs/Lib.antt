@@ -1,3 +1,4 @@
+pub mod Compared
 pub mod Digits
 pub mod Powers
 pub mod Rows

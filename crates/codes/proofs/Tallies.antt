@@ -2,9 +2,9 @@
 use Rattle.std.proofs.Common.{◌≡◌, ℕ, zero, suc, ◌+◌, ◌<◌, ◌≤◌, min, eqb, List, [], ◌∷◌, ◌++◌, map, length, get_or, take, drop, set, sym, refl, ap, ◌∙◌, inl, inr, add-one, arith}
 use Rattle.std.proofs.lemmas.List.{length-set, get_or-set_same, get_or-set_other, at_drop_more, at_drop_all}
 use Rattle.std.proofs.lemmas.Bool.Decides.{eqb_tells, nat_tests}
-use Rattle.std.specs.List.{zip, sum, sum_by}
-use Rattle.std.proofs.lemmas.List.{take_more, length-take-le}
-use Rattle.std.proofs.lemmas.List.Sums.{sum_by_push, sum-map}
+use Rattle.std.specs.List.{zip, sum}
+use Rattle.std.proofs.lemmas.List.{take_more, length-take-le, map_push}
+use Rattle.std.proofs.lemmas.List.Sums.{sum_by_push}
 use Rattle.codes.specs.Codes.{pick, of_colour, in_common}
 
 of_colour_le : (c : ℕ) (xs : List ℕ) → of_colour c xs ≤ length xs
@@ -70,24 +70,20 @@ zip_push (v ∷ xs) (w ∷ ys) x y l = ap (λ ps. (v, w) ∷ ps) (zip_push xs ys
 
 -- two tallies of sixteen colours, of two rows, have in common what the rows have
 module _ (m n xs ys : List ℕ) (lm : length m ≡ 16) (ln : length n ≡ 16) where
-  common_sum_by :
-      (c : ℕ) → c ≤ 16 → ((k : ℕ) → k < 16 → get_or m k 0 ≡ of_colour k xs) → ((k : ℕ) → k < 16 → get_or n k 0 ≡ of_colour k ys) →
-      sum_by (λ p. min p.0 p.1) (zip (take c m) (take c n)) ≡ in_common c xs ys
-  unfolding in_common
-  common_sum_by zero few hm hn = refl
-  common_sum_by (suc c) few hm hn =
-      let x = get_or m c 0 in
-      let y = get_or n c 0 in
-      let tm = rw add-one at (take_more m c 0 (omega arith)) in
-      let tn = rw add-one at (take_more n c 0 (omega arith)) in
-      let l : length (take c m) ≡ length (take c n) = omega (arith, length-take-le c m (omega arith), length-take-le c n (omega arith)) in
-      let ih = common_sum_by c (omega arith) hm hn in
-      let more = sum_by_push (λ p. min p.0 p.1) (zip (take c m) (take c n)) (x, y) in
-      let ex = hm c (omega arith) in
-      let ey = hn c (omega arith) in
-      rw (tm, tn, zip_push (take c m) (take c n) x y l, more, ih) (grind (arith, nat_tests))
-
   pub common_sum :
       (c : ℕ) → c ≤ 16 → ((k : ℕ) → k < 16 → get_or m k 0 ≡ of_colour k xs) → ((k : ℕ) → k < 16 → get_or n k 0 ≡ of_colour k ys) →
       sum (map (λ p. min p.0 p.1) (zip (take c m) (take c n))) ≡ in_common c xs ys
-  common_sum c few hm hn = sum-map {X = ℕ × ℕ} (λ p. min p.0 p.1) (zip (take c m) (take c n)) ∙ common_sum_by c few hm hn
+  unfolding in_common
+  common_sum zero few hm hn = refl
+  common_sum (suc c) few hm hn =
+      let x = get_or m c 0 in
+      let y = get_or n c 0 in
+      let pairs = zip (take c m) (take c n) in
+      let tm = rw add-one at (take_more m c 0 (omega arith)) in
+      let tn = rw add-one at (take_more n c 0 (omega arith)) in
+      let l : length (take c m) ≡ length (take c n) = omega (arith, length-take-le c m (omega arith), length-take-le c n (omega arith)) in
+      let ih = common_sum c (omega arith) hm hn in
+      let ex = hm c (omega arith) in
+      let ey = hn c (omega arith) in
+      rw (tm, tn, zip_push (take c m) (take c n) x y l, map_push (λ p. min p.0 p.1) pairs (x, y), sum_by_push (λ k. k) (map (λ p. min p.0 p.1) pairs) (min x y), ih)
+      (grind (arith, nat_tests))

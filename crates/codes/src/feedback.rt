@@ -1,7 +1,7 @@
 // What a guess is told of a code.
-ghost use Rattle.std.specs.Prelude.{◌≡◌, ℕ, ◌+◌, ◌<◌, ◌≤◌, min, true, map, length, sum, count_by, ◌==◌, nat_le, slice_index};
+ghost use Rattle.std.specs.Prelude.{◌≡◌, ℕ, ◌+◌, ◌<◌, ◌≤◌, min, true, cond, map, length, sum, ◌==◌, nat_le, slice_index};
 ghost use Rattle.std.specs.List.{zip};
-ghost use Rattle.codes.specs.Codes.{of_colour, in_common, told_of};
+ghost use Rattle.codes.specs.Codes.{of_colour, told_of};
 ghost use Rattle.codes.specs.Pegs.{coloured};
 
 use crate::game::Game;
@@ -31,10 +31,12 @@ impl Game {
         ensures { result ≡ told_of self code guess }
     {
         let pegs = self.pegs() as usize;
+        let colours = self.colours() as usize;
         let code_row = self.pegs_of(code);
         let guess_row = self.pegs_of(guess);
-        let right = at_place(&code_row[..pegs], &guess_row[..pegs]) as u8;
-        let common = in_common(self.colours(), &code_row[..pegs], &guess_row[..pegs]);
+        let (code, guess) = (&code_row[..pegs], &guess_row[..pegs]);
+        let right = at_place(code, guess);
+        let common = sum_of_lesser(&tally(code)[..colours], &tally(guess)[..colours]);
         Feedback {
             right,
             near: common - right,
@@ -57,21 +59,14 @@ impl Game {
 }
 
 // How many pegs of two rows are the same at the same place.
-fn at_place(code: &[u8], guess: &[u8]) -> usize
-    ensures { result ≡ count_by (λ p. p.0 == p.1) (zip code.now guess.now) }
+fn at_place(code: &[u8], guess: &[u8]) -> u8
+    requires { length code.now ≤ 8 }
+    ensures { result ≡ sum (map (λ p. cond (p.0 == p.1) 1 0) (zip code.now guess.now)) }
 {
-    code.iter().zip(guess).filter(|(a, b)| **a == **b).count()
-}
-
-// How many pegs two rows have in common, at whatever places.
-fn in_common(colours: u8, code: &[u8], guess: &[u8]) -> u8
-    requires few { colours ≤ 16 }
-    requires short { (length code.now ≤ 8) × (length guess.now ≤ 8) }
-    requires known { (coloured 16 code.now ≡ true) × (coloured 16 guess.now ≡ true) }
-    ensures { result ≡ in_common colours code.now guess.now }
-{
-    let colours = colours as usize;
-    sum_of_lesser(&tally(code)[..colours], &tally(guess)[..colours])
+    code.iter()
+        .zip(guess)
+        .map(|(a, b)| u8::from(*a == *b))
+        .sum()
 }
 
 // The sum of the smaller of both numbers at each place.

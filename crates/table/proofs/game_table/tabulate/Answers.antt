@@ -2,17 +2,12 @@ use Rattle.std.proofs.Common.{◌≤◌, length, sym, ap, ◌∙◌, zero-mul, a
 use Rattle.std.proofs.lemmas.Bool.Decides.{nat_tests}
 use Rattle.codes.specs.Codes.{all_codes}
 use Rattle.table.specs.Table.{size, shape_of, row_of}
-use Rattle.table.proofs.Tables.{row_within}
 use Rattle.table.proofs.Filled.{length_row_of, rows_more, rows_all}
 use Rattle.table.proofs.game_table.tabulate.Goals as goal
 
 pub loop-guess-init : goal.loop-guess-init
 unfolding all_codes
 loop-guess-init c = rw zero-mul
-
-pub slice_bounds-write_row-end : goal.slice_bounds-write_row-end
-slice_bounds-write_row-end c =
-    omega (arith, row_within c.loop-guess.guess c.from-shape.result.codes c.from-shape.result.guesses (omega arith))
 
 pub loop-guess-preserved : goal.loop-guess-preserved
 loop-guess-preserved c =
