@@ -20,8 +20,8 @@ impl Game {
         let colours = self.colours as u16;
         let mut row = [0; 8];
         let mut rest = code;
-        for i in 0..self.pegs as usize {
-            row[i] = (rest % colours) as u8;
+        for peg in &mut row[..self.pegs as usize] {
+            *peg = (rest % colours) as u8;
             rest /= colours;
         }
         row
@@ -29,10 +29,12 @@ impl Game {
 
     fn feedback(self, code: u16, guess: u16) -> Feedback {
         let pegs = self.pegs as usize;
+        let colours = self.colours as usize;
         let code_row = self.pegs_of(code);
         let guess_row = self.pegs_of(guess);
-        let right = at_place(&code_row[..pegs], &guess_row[..pegs]);
-        let common = in_common(self.colours, &code_row[..pegs], &guess_row[..pegs]);
+        let (code, guess) = (&code_row[..pegs], &guess_row[..pegs]);
+        let right = at_place(code, guess);
+        let common = sum_of_lesser(&tally(code)[..colours], &tally(guess)[..colours]);
         Feedback {
             right,
             near: common - right,
@@ -41,13 +43,14 @@ impl Game {
 }
 
 fn at_place(code: &[u8], guess: &[u8]) -> u8 {
-    let mut right = 0;
-    for i in 0..code.len() {
-        if code[i] == guess[i] {
-            right += 1;
-        }
-    }
-    right
+    code.iter()
+        .zip(guess)
+        .map(|(a, b)| u8::from(*a == *b))
+        .sum()
+}
+
+fn sum_of_lesser(a: &[u8], b: &[u8]) -> u8 {
+    a.iter().zip(b).map(|(x, y)| *x.min(y)).sum()
 }
 
 fn tally(row: &[u8]) -> [u8; 16] {
@@ -56,16 +59,6 @@ fn tally(row: &[u8]) -> [u8; 16] {
         counts[*peg as usize] += 1;
     }
     counts
-}
-
-fn in_common(colours: u8, code: &[u8], guess: &[u8]) -> u8 {
-    let code_tally = tally(code);
-    let guess_tally = tally(guess);
-    let mut common = 0;
-    for colour in 0..colours as usize {
-        common += code_tally[colour].min(guess_tally[colour]);
-    }
-    common
 }
 
 fn first_with(pegs: u8, right: u8) -> u8 {
@@ -78,8 +71,8 @@ fn told(game: Game, guess: u16, code: u16) -> u8 {
 }
 
 fn write_row(game: Game, guess: u16, row: &mut [u8]) {
-    for code in 0..row.len() {
-        row[code] = told(game, guess, code as u16);
+    for (code, entry) in row.iter_mut().enumerate() {
+        *entry = told(game, guess, code as u16);
     }
 }
 
@@ -92,11 +85,9 @@ fn tabulate(game: Game, table: &mut [u8]) {
 }
 
 fn checksum(table: &[u8]) -> u32 {
-    let mut sum = 0u32;
-    for entry in table {
-        sum = sum.wrapping_mul(31).wrapping_add(*entry as u32);
-    }
-    sum
+    table.iter().fold(0u32, |sum, entry| {
+        sum.wrapping_mul(31).wrapping_add(*entry as u32)
+    })
 }
 
 fn measure(pegs: u8, colours: u8) {
