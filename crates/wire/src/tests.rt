@@ -12,12 +12,6 @@ fn writes<W: FnOnce(&mut [u8]) -> Result<usize, TooShort>>(rt: &impl Abort, row:
     assert!(rt; rest.is_some_and(|rest| rest.iter().all(|byte| *byte == 7)));
 }
 
-// A call, and its bytes.
-fn call_is(rt: &impl Abort, call: Call, row: &[u8]) {
-    assert_eq!(rt; Call::try_from(row), Ok(call));
-    writes(rt, row, |out| call.write(out));
-}
-
 #[test]
 fn each_call_by_its_bytes(rt: HostRuntime) {
     let told = Call::Told {
@@ -25,31 +19,37 @@ fn each_call_by_its_bytes(rt: HostRuntime) {
         right: 3,
         near: 4,
     };
-    call_is(&rt, told, &[0, 1, 2, 3, 4]);
-    call_is(&rt, Call::Back, &[1]);
-    call_is(&rt, Call::Left, &[2]);
-    call_is(&rt, Call::CouldBe(65280), &[3, 0, 255]);
-    call_is(&rt, Call::Advise, &[4]);
-}
-
-// No call, at the first byte that does not fit.
-fn no_call(rt: &impl Abort, row: &[u8], place: u32) {
-    assert_eq!(rt; Call::try_from(row), Err(Garbled { place }));
+    let calls: [(Call, &[u8]); 5] = [
+        (told, &[0, 1, 2, 3, 4]),
+        (Call::Back, &[1]),
+        (Call::Left, &[2]),
+        (Call::CouldBe(65280), &[3, 0, 255]),
+        (Call::Advise, &[4]),
+    ];
+    for (call, row) in calls {
+        assert_eq!(rt; Call::try_from(row), Ok(call));
+        writes(&rt, row, |out| call.write(out));
+    }
 }
 
 #[test]
 fn a_row_is_garbled_at_its_first_byte_that_does_not_fit(rt: HostRuntime) {
-    no_call(&rt, &[], 0);
-    no_call(&rt, &[5], 0);
-    no_call(&rt, &[255, 0], 0);
-    no_call(&rt, &[0], 1);
-    no_call(&rt, &[0, 1, 2, 3], 4);
-    no_call(&rt, &[0, 1, 2, 3, 4, 5], 5);
-    no_call(&rt, &[1, 0], 1);
-    no_call(&rt, &[2, 0], 1);
-    no_call(&rt, &[3, 1], 2);
-    no_call(&rt, &[3, 1, 2, 3], 3);
-    no_call(&rt, &[4, 4], 1);
+    let rows: [(&[u8], u32); 11] = [
+        (&[], 0),
+        (&[5], 0),
+        (&[255, 0], 0),
+        (&[0], 1),
+        (&[0, 1, 2, 3], 4),
+        (&[0, 1, 2, 3, 4, 5], 5),
+        (&[1, 0], 1),
+        (&[2, 0], 1),
+        (&[3, 1], 2),
+        (&[3, 1, 2, 3], 3),
+        (&[4, 4], 1),
+    ];
+    for (row, place) in rows {
+        assert_eq!(rt; Call::try_from(row), Err(Garbled { place }));
+    }
     assert_eq!(rt;
         Answer::from(Garbled { place: 4 }),
         Answer::Refused {
@@ -59,36 +59,28 @@ fn a_row_is_garbled_at_its_first_byte_that_does_not_fit(rt: HostRuntime) {
     );
 }
 
-// No answer, at the first byte that does not fit.
-fn no_answer(rt: &impl Abort, row: &[u8], place: u32) {
-    assert_eq!(rt; Answer::try_from(row), Err(Garbled { place }));
-}
-
-// An answer, and its bytes.
-fn answer_is(rt: &impl Abort, answer: Answer, row: &[u8]) {
-    assert_eq!(rt; Answer::try_from(row), Ok(answer));
-    writes(rt, row, |out| answer.write(out));
-}
-
 #[test]
 fn each_answer_by_its_bytes(rt: HostRuntime) {
-    answer_is(
-        &rt,
-        Answer::Refused {
-            number: 7,
-            place: 258,
-        },
-        &[0, 7, 0, 0, 0, 2, 1, 0, 0],
-    );
-    answer_is(&rt, Answer::Number(67305985), &[1, 1, 2, 3, 4]);
-    answer_is(
-        &rt,
-        Answer::Two(256, 4294967295),
-        &[2, 0, 1, 0, 0, 255, 255, 255, 255],
-    );
-    no_answer(&rt, &[3], 0);
-    no_answer(&rt, &[1, 0, 0, 0], 4);
-    no_answer(&rt, &[1, 0, 0, 0, 0, 0], 5);
+    let refused = Answer::Refused {
+        number: 7,
+        place: 258,
+    };
+    let answers: [(Answer, &[u8]); 3] = [
+        (refused, &[0, 7, 0, 0, 0, 2, 1, 0, 0]),
+        (Answer::Number(67305985), &[1, 1, 2, 3, 4]),
+        (
+            Answer::Two(256, 4294967295),
+            &[2, 0, 1, 0, 0, 255, 255, 255, 255],
+        ),
+    ];
+    for (answer, row) in answers {
+        assert_eq!(rt; Answer::try_from(row), Ok(answer));
+        writes(&rt, row, |out| answer.write(out));
+    }
+    let rows: [(&[u8], u32); 3] = [(&[3], 0), (&[1, 0, 0, 0], 4), (&[1, 0, 0, 0, 0, 0], 5)];
+    for (row, place) in rows {
+        assert_eq!(rt; Answer::try_from(row), Err(Garbled { place }));
+    }
 }
 
 #[test]
