@@ -1,42 +1,43 @@
 // The rules by example: games, codes and their pegs, and what guesses are told.
 use crate::{Feedback, Game};
-use std::process::Abort;
-
-fn refused(rt: &impl Abort, pegs: u8, colours: u8) {
-    assert!(rt; Game::new(pegs, colours).is_none());
-}
-
-// A number of pegs, the most colours that go with it, and how many codes that makes.
-fn largest(rt: &impl Abort, pegs: u8, colours: u8, codes: u16) {
-    let game = Game::new(pegs, colours).expect(rt, "taken");
-    assert_eq!(rt; game.pegs(), pegs);
-    assert_eq!(rt; game.colours(), colours);
-    assert_eq!(rt; game.codes(), codes);
-    refused(rt, pegs, colours.saturating_add(1));
-}
 
 #[test]
 fn the_largest_game_of_each_number_of_pegs(rt: HostRuntime) {
-    largest(&rt, 1, 16, 16);
-    largest(&rt, 2, 16, 256);
-    largest(&rt, 3, 6, 216);
-    largest(&rt, 4, 4, 256);
-    largest(&rt, 5, 3, 243);
-    largest(&rt, 6, 2, 64);
-    largest(&rt, 7, 2, 128);
-    largest(&rt, 8, 2, 256);
+    // A number of pegs, the most colours that go with it, and how many codes that makes.
+    let games = [
+        (1, 16, 16),
+        (2, 16, 256),
+        (3, 6, 216),
+        (4, 4, 256),
+        (5, 3, 243),
+        (6, 2, 64),
+        (7, 2, 128),
+        (8, 2, 256),
+    ];
+    for (pegs, colours, codes) in games {
+        let game = Game::new(pegs, colours).expect(&rt, "taken");
+        assert_eq!(rt; game.pegs(), pegs);
+        assert_eq!(rt; game.colours(), colours);
+        assert_eq!(rt; game.codes(), codes);
+        assert!(rt; Game::new(pegs, colours.saturating_add(1)).is_none());
+    }
 }
 
 #[test]
 fn games_out_of_range_are_refused(rt: HostRuntime) {
-    refused(&rt, 0, 1);
-    refused(&rt, 1, 0);
-    refused(&rt, 0, 0);
-    refused(&rt, 9, 1);
-    refused(&rt, 255, 1);
-    refused(&rt, 1, 255);
-    refused(&rt, 8, 16);
-    refused(&rt, 255, 255);
+    let games = [
+        (0, 1),
+        (1, 0),
+        (0, 0),
+        (9, 1),
+        (255, 1),
+        (1, 255),
+        (8, 16),
+        (255, 255),
+    ];
+    for (pegs, colours) in games {
+        assert!(rt; Game::new(pegs, colours).is_none());
+    }
 }
 
 #[test]
@@ -53,43 +54,20 @@ fn a_code_and_its_pegs(rt: HostRuntime) {
     assert_eq!(rt; game.code_of(&[255, 1, 1, 2]), None);
 }
 
-fn tells(rt: &impl Abort, pegs: u8, code: &[u8], guess: &[u8], told: Feedback) {
-    let game = Game::new(pegs, 3).expect(rt, "taken");
-    let code = game.code_of(code).expect(rt, "a code");
-    let guess = game.code_of(guess).expect(rt, "a code");
-    assert_eq!(rt; game.feedback(code, guess), told);
-}
-
 #[test]
 fn a_colour_twice_in_the_guess_and_once_in_the_code_counts_once(rt: HostRuntime) {
-    tells(
-        &rt,
-        4,
-        &[0, 1, 1, 2],
-        &[1, 0, 1, 1],
-        Feedback { right: 1, near: 2 },
-    );
-    tells(
-        &rt,
-        3,
-        &[0, 1, 2],
-        &[1, 0, 0],
-        Feedback { right: 0, near: 2 },
-    );
-    tells(
-        &rt,
-        3,
-        &[0, 1, 2],
-        &[0, 0, 1],
-        Feedback { right: 1, near: 1 },
-    );
-    tells(
-        &rt,
-        3,
-        &[1, 0, 0],
-        &[0, 1, 2],
-        Feedback { right: 0, near: 2 },
-    );
+    let told: [(&[u8], &[u8], Feedback); 4] = [
+        (&[0, 1, 1, 2], &[1, 0, 1, 1], Feedback { right: 1, near: 2 }),
+        (&[0, 1, 2], &[1, 0, 0], Feedback { right: 0, near: 2 }),
+        (&[0, 1, 2], &[0, 0, 1], Feedback { right: 1, near: 1 }),
+        (&[1, 0, 0], &[0, 1, 2], Feedback { right: 0, near: 2 }),
+    ];
+    for (code, guess, told) in told {
+        let game = Game::new(code.len() as u8, 3).expect(&rt, "taken");
+        let code = game.code_of(code).expect(&rt, "a code");
+        let guess = game.code_of(guess).expect(&rt, "a code");
+        assert_eq!(rt; game.feedback(code, guess), told);
+    }
 }
 
 // What each guess is told of each code, ten times right and near, for 00 10 20 01 11 21 02 12 22.
