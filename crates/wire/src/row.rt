@@ -32,6 +32,7 @@ pub(crate) fn misfit(row: &[u8], lengths: &[u8]) -> Garbled
 }
 
 // Puts a row at the front of a buffer and says how long it is; a buffer that is too short is left as it was.
+// The buffer is the caller's, so no type of ours carries what becomes of it: the clauses say it, here and of both `write`s.
 pub(crate) fn put(row: &[u8], out: &mut [u8]) -> Result<usize, TooShort>
     ensures value { result ≡ put_said row.now out.old }
     ensures after { out.new ≡ put_in row.now out.old }
