@@ -77,7 +77,7 @@ fn sum_of_lesser(a: &[u8], b: &[u8]) -> u8
     a.iter().zip(b).map(|(x, y)| *x.min(y)).sum()
 }
 
-// How many pegs of a row are of each colour.
+// How many pegs of a row are of each colour, of sixteen: an array, since nothing here allocates.
 fn tally(row: &[u8]) -> [u8; 16]
     requires short { length row.now ≤ 8 }
     requires known { coloured 16 row.now ≡ true }

@@ -1,8 +1,9 @@
 // What is printed for a line.
-ghost use Rattle.std.specs.Prelude.{◌≡◌, IfOk, string_bytes};
+ghost use Rattle.std.specs.Prelude.{◌≡◌, Some, IfOk, string_bytes};
 ghost use Rattle.codes.specs.Pegs.{game_of};
-ghost use Rattle.desk.specs.Replies.{shortened, told_in_words, told_of_rows, reply_to};
+ghost use Rattle.desk.specs.Replies.{shortened, told_in_words, told_of_rows, reply, reply_to};
 ghost use Rattle.std.specs.Option.{option_map};
+ghost use Rattle.text.specs.Meaning.{means};
 ghost use Rattle.text.specs.Words.{in_words, refused_at};
 ghost use Rattle.wire.specs.Format.{call_of};
 ghost use Rattle.wire.specs.Meaning.{refusal_number};
@@ -17,28 +18,32 @@ pub fn reply_to(heap: Global, line: &[u8]) -> Result<Option<String>, AllocError>
     ensures { IfOk result (λ s. option_map string_bytes s ≡ reply_to line.now) }
 {
     let line = without(without(line, b'\n'), b'\r');
-    let reply = match Line::read(heap, line) {
-        Ok(None) => return Ok(None),
-        Ok(Some(Line::Row(row))) => reply_to_row(heap, row.as_slice())?,
-        Ok(
-            Some(
-                Line::Feedback {
-                    pegs,
-                    colours,
-                    code,
-                    guess,
-                },
-            ),
-        ) => {
-            match told(pegs, colours, code.as_slice(), guess.as_slice()) {
-                Ok(told) => told.to_string(heap)?,
-                Err(refused) => refusal(heap, refused, 0)?,
-            }
+    match Line::read(heap, line) {
+        Ok(None) => Ok(None),
+        Ok(Some(line)) => Ok(Some(reply_to_line(heap, line)?)),
+        Err(LineError::Unreadable { place }) => {
+            Ok(Some(refusal(heap, Refusal::Unreadable, place)?))
         }
-        Err(LineError::Unreadable { place }) => refusal(heap, Refusal::Unreadable, place)?,
-        Err(LineError::OutOfMemory) => return Err(AllocError),
-    };
-    Ok(Some(reply))
+        Err(LineError::OutOfMemory) => Err(AllocError),
+    }
+}
+
+// The reply to a line that was read.
+fn reply_to_line(heap: Global, line: Line) -> Result<String, AllocError>
+    ensures { IfOk result (λ s. Some (string_bytes s) ≡ reply (means line)) }
+{
+    match line {
+        Line::Row(row) => reply_to_row(heap, row.as_slice()),
+        Line::Feedback {
+            pegs,
+            colours,
+            code,
+            guess,
+        } => match told(pegs, colours, code.as_slice(), guess.as_slice()) {
+            Ok(told) => told.to_string(heap),
+            Err(refused) => refusal(heap, refused, 0),
+        },
+    }
 }
 
 // The call that a row of bytes is, or how it is refused.
@@ -51,7 +56,8 @@ fn reply_to_row(heap: Global, row: &[u8]) -> Result<String, AllocError>
     }
 }
 
-// What a guess is told of a code, both given as rows of pegs.
+// What a guess is told of a code, both given as rows of pegs. Each check hands on its value or turns the line away, by
+// `let .. else` as every refusal of the desk.
 fn told(pegs: u8, colours: u8, code: &[u8], guess: &[u8]) -> Result<Told, Refusal>
     ensures { told_in_words result ≡ told_of_rows (game_of pegs colours) code.now guess.now }
 {
@@ -64,6 +70,7 @@ fn told(pegs: u8, colours: u8, code: &[u8], guess: &[u8]) -> Result<Told, Refusa
     Ok(Told(game.feedback(code, guess)))
 }
 
+// A refusal in words.
 fn refusal(heap: Global, refusal: Refusal, place: usize) -> Result<String, AllocError>
     ensures { IfOk result (λ s. string_bytes s ≡ refused_at (refusal_number refusal) place) }
 {

@@ -31,11 +31,7 @@ pub fn all_right(game: Game) -> u8
 pub fn number(game: Game, feedback: Feedback) -> Option<u8>
     ensures { result ≡ numbered game feedback }
 {
-    if game.allows(feedback) {
-        Some(place(game, feedback))
-    } else {
-        None
-    }
+    game.allows(feedback).then(|| place(game, feedback))
 }
 
 // The number of feedback that the game allows.

@@ -33,7 +33,7 @@ impl<'a> Cursor<'a> {
         self.at == self.text.len()
     }
 
-    // That the whole line is read.
+    // Refuses a line that goes on, at the place where it does.
     pub(crate) fn end(&self) -> Result<(), Misfit>
         ensures ok { OnOk result (self.now.at ≡ length self.now.text.now) }
         ensures err { IfErr result (λ m. (self.now.at ≢ length self.now.text.now) × (m.place ≡ self.now.at)) }
@@ -48,7 +48,8 @@ impl<'a> Cursor<'a> {
     // The byte that a blank and two digits write.
     pub(crate) fn byte(&mut self) -> Result<u8, Misfit>
         ensures ok { IfOk result (λ b. front_byte (drop self.old.at self.old.text.now) ≡ Ok b) }
-        ensures err { IfErr result (λ m. (n : ℕ) × (front_byte (drop self.old.at self.old.text.now) ≡ Err n) × (m.place ≡ self.old.at + n)) }
+        ensures err { IfErr result (λ m. (n : ℕ) × (front_byte (drop self.old.at self.old.text.now) ≡ Err n)
+            × (m.place ≡ self.old.at + n)) }
         ensures text { self.new.text.now ≡ self.old.text.now }
         ensures at { OnOk result (self.new.at ≡ self.old.at + 3) }
     {
@@ -57,12 +58,8 @@ impl<'a> Cursor<'a> {
         let [b' ', ..] = rest else {
             return Err(Misfit { place: at });
         };
-        let Some(high) = digit_at(rest, 1) else {
-            return Err(Misfit { place: at + 1 });
-        };
-        let Some(low) = digit_at(rest, 2) else {
-            return Err(Misfit { place: at + 2 });
-        };
+        let high = digit_at(rest, 1).ok_or(Misfit { place: at + 1 })?;
+        let low = digit_at(rest, 2).ok_or(Misfit { place: at + 2 })?;
         self.at += 3;
         Ok(16 * high + low)
     }
@@ -103,6 +100,7 @@ fn digit_run(text: &[u8], radix: u8) -> usize
     text.iter().take_while(|c| is_digit(**c, radix)).count()
 }
 
+// Whether a character is a digit below a radix.
 fn is_digit(c: u8, radix: u8) -> bool
     ensures { result ≡ digit_below radix c }
 {

@@ -26,7 +26,7 @@ pub(crate) fn read_feedback(heap: Global, mut line: Cursor) -> Result<Line, Line
     })
 }
 
-// The number that decimal digits write, and 255 of a larger one.
+// The number that decimal digits write, and 255 of a larger one: no game has so many pegs, and it is refused as a game.
 fn number(digits: &[u8]) -> u8
     ensures { result ≡ number_in digits.now }
 {
@@ -43,8 +43,7 @@ fn row(heap: Global, digits: &[u8]) -> Result<Vec<u8>, AllocError>
     digits.iter().map(|c| digit_value(*c)).collect(heap)
 }
 
-// The value of a digit, and 0 of any other character. A field has digits alone; to leave the 0 out, three contracts would have to
-// say so.
+// The value of a digit, and 0 of any other character, as the definition has it: no contract here need say that all are digits.
 fn digit_value(c: u8) -> u8
     ensures { result ≡ value c }
 {

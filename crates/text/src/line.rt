@@ -27,6 +27,7 @@ pub enum LineError {
     OutOfMemory,
 }
 
+// What a cursor refuses is where the line ceases to be one.
 impl From<Misfit> for LineError {
     ghost from_gives = { λ m e. e ≡ Unreadable m.place };
 
@@ -37,6 +38,7 @@ impl From<Misfit> for LineError {
     }
 }
 
+// Memory runs out as one error where a row is made, and as another where a byte is put behind one: `?` needs both.
 impl From<AllocError> for LineError {
     ghost from_gives = { λ _ e. e ≡ OutOfMemory };
 
@@ -68,16 +70,16 @@ impl Line {
             return Ok(None);
         }
         let bytes = common_prefix(&BYTES, text);
-        if bytes == BYTES.len() {
-            return Ok(Some(read_bytes(heap, Cursor::new(text, bytes))?));
-        }
         let feedback = common_prefix(&FEEDBACK, text);
-        if feedback == FEEDBACK.len() {
-            return Ok(Some(read_feedback(heap, Cursor::new(text, feedback))?));
+        if bytes == BYTES.len() {
+            Ok(Some(read_bytes(heap, Cursor::new(text, bytes))?))
+        } else if feedback == FEEDBACK.len() {
+            Ok(Some(read_feedback(heap, Cursor::new(text, feedback))?))
+        } else {
+            Err(LineError::Unreadable {
+                place: bytes.max(feedback),
+            })
         }
-        Err(LineError::Unreadable {
-            place: bytes.max(feedback),
-        })
     }
 }
 

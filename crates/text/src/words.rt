@@ -49,8 +49,7 @@ impl fmt::Display for Refused {
     ghost output = { λ r. Some (refused_at r.number r.place) };
 
     fn fmt<W: fmt::Write>(&self, f: &mut fmt::Formatter<W>) -> fmt::Result {
-        let number = self.number;
-        let place = self.place;
+        let Refused { number, place } = *self;
         write!(f, "refused {number} at {place}")
     }
 }

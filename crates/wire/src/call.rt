@@ -16,12 +16,10 @@ pub enum Call {
     Advise,
 }
 
-// How many bytes each call has, by its number. The numbers are the format's first bytes, each written out where a row is read
-// and where it is put: an enum of kinds beside the enum of calls would say each once more.
+// How many bytes each call has, by its number. The numbers are the format's: an enum of kinds would say each once more.
 const LENGTHS: [u8; 5] = [5, 1, 1, 3, 1];
 
-// The call that a row of bytes is, or the first byte that does not fit. Answers are read by the same line: a trait over both,
-// with its two impls, would be longer than the line.
+// The call that a row of bytes is, or the first byte that does not fit. Answers are read by the same line: a trait is longer.
 impl TryFrom<&[u8]> for Call {
     type Error = Garbled;
 

@@ -20,19 +20,17 @@ pub(crate) fn misfit(row: &[u8], lengths: &[u8]) -> Garbled
     ensures { (forms : List (List ℕ)) → lengths.now ≡ lengths_of forms → NoRow forms row.now →
         reading forms row.now ≡ ceases result.place }
 {
-    let Some(number) = row.first() else {
-        return Garbled { place: 0 };
-    };
-    let Some(length) = lengths.get(*number as usize) else {
-        return Garbled { place: 0 };
-    };
+    let length = row
+        .first()
+        .and_then(|number| lengths.get(*number as usize))
+        .unwrap_or(&0);
     Garbled {
         place: row.len().min(*length as usize) as u32,
     }
 }
 
 // Puts a row at the front of a buffer and says how long it is; a buffer that is too short is left as it was.
-// The buffer is the caller's, so no type of ours carries what becomes of it: the clauses say it, here and of both `write`s.
+// The buffer is the caller's, so the clauses and no type say what becomes of it, here and of both `write`s.
 pub(crate) fn put(row: &[u8], out: &mut [u8]) -> Result<usize, TooShort>
     ensures value { result ≡ put_said row.now out.old }
     ensures after { out.new ≡ put_in row.now out.old }

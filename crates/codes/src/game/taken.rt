@@ -13,10 +13,7 @@ impl Game {
         ensures made { result ≡ pick (is_taken (game_of pegs colours)) (Some (game_of pegs colours)) None }
         ensures exactly { MatchOption result (Taken (game_of pegs colours) → ⊥) (λ _. Taken (game_of pegs colours)) }
     {
-        // Each check hands on its value or turns the game away.
-        let Some(codes) = count_codes(pegs, colours) else {
-            return None;
-        };
+        let codes = count_codes(pegs, colours)?;
         if pegs == 0 || pegs > 8 || colours == 0 || colours > 16 || codes > 256 {
             return None;
         }
