@@ -78,6 +78,7 @@ fn sum_of_lesser(a: &[u8], b: &[u8]) -> u8
 }
 
 // How many pegs of a row are of each colour, of sixteen: an array, since nothing here allocates.
+#[tactic(auto, using(crate::proofs::Digits::colour_at, crate::proofs::Tallies::tally_lt))]
 fn tally(row: &[u8]) -> [u8; 16]
     requires short { length row.now ≤ 8 }
     requires known { coloured 16 row.now ≡ true }
