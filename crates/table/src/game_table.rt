@@ -6,6 +6,7 @@ ghost use Rattle.table.specs.Table.{told_number, row_of, tabulated, shape_in, lo
 
 use crate::answers;
 use crate::shape::Shape;
+use crate::view::Table;
 use codes::{Feedback, Game};
 
 // Makes the table of a game at the front of lent bytes and gives its shape; bytes that are too few are left as they were.
@@ -30,7 +31,7 @@ pub fn tabulate(game: Game, table: &mut [u8]) -> Option<Shape>
 pub fn look_up(game: Game, table: &[u8], guess: u16, code: u16) -> Option<Feedback>
     ensures { result ≡ looked_up game table.now guess code }
 {
-    let number = Shape::from(game).entry(table, guess, code)?;
+    let number = Table::new(Shape::from(game), table)?.entry(guess, code)?;
     answers::feedback(game, number)
 }
 

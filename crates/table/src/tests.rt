@@ -1,5 +1,5 @@
 // Numbers and tables by example.
-use crate::{Shape, answers, look_up, tabulate};
+use crate::{Shape, Table, answers, look_up, tabulate};
 use codes::{Feedback, Game};
 
 #[test]
@@ -81,12 +81,12 @@ const THREE_OF_TWO: [[u8; 8]; 8] = [
 
 #[test]
 fn three_pegs_of_two_colours(rt: HostRuntime) {
-    let mut table = [0; 64];
+    let mut bytes = [0; 64];
     let game = Game::new(3, 2).expect(&rt, "taken");
-    let shape = tabulate(game, &mut table).expect(&rt, "bytes enough");
+    let shape = tabulate(game, &mut bytes).expect(&rt, "bytes enough");
+    let table = Table::new(shape, &bytes).expect(&rt, "bytes enough");
     for (guess, expected) in THREE_OF_TWO.iter().enumerate() {
-        let row = shape.row(&table, guess as u16);
-        assert_eq!(rt; row, Some(&expected[..]));
+        assert_eq!(rt; table.row(guess as u16), Some(&expected[..]));
     }
 }
 
@@ -109,11 +109,13 @@ fn a_table_of_three_guesses_and_two_codes(rt: HostRuntime) {
         answers: 4,
         all_right: 3,
     };
-    let table = [3, 0, 1, 3, 2, 1];
+    let bytes = [3, 0, 1, 3, 2, 1];
     assert_eq!(rt; shape.size(), 6);
-    assert_eq!(rt; shape.row(&table, 1), Some(&[1, 3][0..2]));
-    assert_eq!(rt; shape.row(&table, 3), None);
-    assert_eq!(rt; shape.entry(&table, 2, 0), Some(2));
-    assert_eq!(rt; shape.entry(&table, 2, 1), Some(1));
-    assert_eq!(rt; shape.entry(&table, 0, 2), None);
+    assert!(rt; Table::new(shape, &bytes[..5]).is_none());
+    let table = Table::new(shape, &bytes).expect(&rt, "bytes enough");
+    assert_eq!(rt; table.row(1), Some(&[1, 3][0..2]));
+    assert_eq!(rt; table.row(3), None);
+    assert_eq!(rt; table.entry(2, 0), Some(2));
+    assert_eq!(rt; table.entry(2, 1), Some(1));
+    assert_eq!(rt; table.entry(0, 2), None);
 }
