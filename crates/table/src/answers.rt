@@ -1,7 +1,6 @@
 // The ways of being told, by number: the place of each in the rule book's list, by right and then near. A table holds one in a
 // byte, so they stay numbers.
 ghost use Rattle.std.specs.Prelude.{◌≡◌, ◌+◌, ◌<◌, ◌≤◌, length};
-ghost use Rattle.std.specs.Option.{option_map};
 ghost use Rattle.std.specs.List.{slice_get};
 ghost use Rattle.table.specs.Answers.{answers, answer_number, Allowed, numbered, all_right, fewer_right};
 

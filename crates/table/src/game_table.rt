@@ -1,6 +1,5 @@
 // The table of a game: made in lent bytes when a game is opened, and read as feedback.
 ghost use Rattle.std.specs.Prelude.{◌≡◌, length};
-ghost use Rattle.std.specs.Option.{option_map};
 ghost use Rattle.codes.specs.Codes.{how_many};
 ghost use Rattle.table.specs.Table.{told_number, row_of, tabulated, shape_in, looked_up};
 
