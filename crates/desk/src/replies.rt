@@ -19,8 +19,7 @@ pub fn reply_to(heap: Global, line: &[u8]) -> Result<Option<String>, AllocError>
 {
     let line = without(without(line, b'\n'), b'\r');
     match Line::read(heap, line) {
-        Ok(None) => Ok(None),
-        Ok(Some(line)) => Ok(Some(reply_to_line(heap, line)?)),
+        Ok(line) => line.map(|line| reply_to_line(heap, line)).transpose(),
         Err(LineError::Unreadable { place }) => {
             Ok(Some(refusal(heap, Refusal::Unreadable, place)?))
         }

@@ -20,12 +20,9 @@ pub(crate) fn misfit(row: &[u8], lengths: &[u8]) -> Garbled
     ensures { (forms : List (List ℕ)) → lengths.now ≡ lengths_of forms → NoRow forms row.now →
         reading forms row.now ≡ ceases result.place }
 {
-    let length = row
-        .first()
-        .and_then(|number| lengths.get(*number as usize))
-        .unwrap_or(&0);
+    let length = row.first().and_then(|number| lengths.get(*number as usize));
     Garbled {
-        place: row.len().min(*length as usize) as u32,
+        place: length.map_or(0, |length| row.len().min(*length as usize)) as u32,
     }
 }
 
