@@ -17,11 +17,9 @@ pub fn tabulate(game: Game, table: &mut [u8]) -> Option<Shape>
     if table.len() < shape.size() {
         return None;
     }
-    let codes = shape.codes as usize;
     // `chunks_exact_mut` would hand out the rows, but of what they hold a proof then knows nothing.
     for guess in 0..shape.guesses {
-        let start = guess as usize * codes;
-        write_row(game, guess, &mut table[start..start + codes]);
+        write_row(game, guess, &mut table[shape.row_range(guess)]);
     }
     Some(shape)
 }

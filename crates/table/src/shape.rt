@@ -1,9 +1,10 @@
 // A table's shape.
-ghost use Rattle.std.specs.Prelude.{◌≡◌};
+ghost use Rattle.std.specs.Prelude.{◌≡◌, ◌+◌, ◌*◌};
 ghost use Rattle.table.specs.Table.{size};
 
 use crate::answers;
 use codes::Game;
+use std::ops::Range;
 
 // So many codes, guesses and answers, and the number of the answer that is all right.
 #[derive(Clone, Copy)]
@@ -36,5 +37,14 @@ impl Shape {
         ensures { result ≡ size self }
     {
         self.guesses as usize * self.codes as usize
+    }
+
+    // Where the row of a guess lies in a table.
+    pub(crate) fn row_range(self, guess: u16) -> Range<usize>
+        ensures start { result.start ≡ guess * self.codes }
+        ensures end { result.end ≡ guess * self.codes + self.codes }
+    {
+        let start = guess as usize * self.codes as usize;
+        start..start + self.codes as usize
     }
 }

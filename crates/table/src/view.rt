@@ -31,9 +31,7 @@ impl<'a> Table<'a> {
         if guess >= self.shape.guesses {
             return None;
         }
-        let codes = self.shape.codes as usize;
-        let start = guess as usize * codes;
-        Some(&self.bytes[start..start + codes])
+        Some(&self.bytes[self.shape.row_range(guess)])
     }
 
     // What a code is told of a guess, by number; none where there is no such code or guess.

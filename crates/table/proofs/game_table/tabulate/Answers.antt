@@ -13,7 +13,9 @@ pub loop-guess-preserved : goal.loop-guess-preserved
 loop-guess-preserved c =
     let g = c.args.game in
     let codes = ap (λ s. s.codes) c.from-shape.ensures in
-    rows_more (row_of g) _ (λ q. length_row_of g q ∙ sym codes) _ _ _ _ _ c.loop-guess.invariant c.write_row.ensures (omega arith)
+    rw c.row_range.ensures.start (
+    rows_more (row_of g) _ (λ q. length_row_of g q ∙ sym codes) _ _ _ _ _ c.loop-guess.invariant c.write_row.ensures
+    (omega (arith, c.row_range.ensures.end)))
 
 pub returns : goal.returns
 returns c =

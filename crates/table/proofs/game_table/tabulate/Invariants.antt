@@ -6,4 +6,4 @@ use Rattle.table.proofs.game_table.tabulate.Given as goal
 
 abbrev pub invariant-loop-guess : goal.invariant-loop-guess
 invariant-loop-guess l =
-    l.table ≡ flat_map (row_of l.game) (all_codes l.guess) ++ drop (l.guess * l.codes) l.initial.table
+    l.table ≡ flat_map (row_of l.game) (all_codes l.guess) ++ drop (l.guess * l.shape.codes) l.initial.table
