@@ -23,6 +23,7 @@ pub fn reply_to(heap: Global, line: &[u8]) -> Result<Option<String>, AllocError>
         Err(LineError::Unreadable { place }) => {
             Ok(Some(refusal(heap, Refusal::Unreadable, place)?))
         }
+        // An unreadable line is answered, so only want of memory is handed on.
         Err(LineError::OutOfMemory) => Err(AllocError),
     }
 }
@@ -55,8 +56,8 @@ fn reply_to_row(heap: Global, row: &[u8]) -> Result<String, AllocError>
     }
 }
 
-// What a guess is told of a code, both given as rows of pegs. Each check hands on its value or turns the line away by
-// `let .. else`, in the order of the rules.
+// What a guess is told of a code, both given as rows of pegs. One `let .. else` for each refusal, in the order of
+// the rules.
 fn told(pegs: u8, colours: u8, code: &[u8], guess: &[u8]) -> Result<Told, Refusal>
     ensures { told_in_words result ≡ told_of_rows (game_of pegs colours) code.now guess.now }
 {

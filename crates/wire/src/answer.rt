@@ -18,7 +18,7 @@ pub enum Answer {
     Two(u32, u32),
 }
 
-// How many bytes each answer has, by its number, the format's first byte as in a call.
+// How many bytes each answer has, by its number: the format's, as of a call.
 const LENGTHS: [u8; 3] = [9, 5, 9];
 
 // The answer that a row of bytes is, or the first byte that does not fit.
