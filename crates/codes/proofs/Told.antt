@@ -26,7 +26,7 @@ unfolding EitherWay
 either_way g c q =
     cc (at_place_sym (pegs_of g c) (pegs_of g q), in_common_sym g.colours (pegs_of g c) (pegs_of g q))
 
-pub at_place_le : (xs ys : List ℕ) → at_place xs ys ≤ length xs
+at_place_le : (xs ys : List ℕ) → at_place xs ys ≤ length xs
 unfolding at_place
 at_place_le [] ys = omega arith
 at_place_le (x ∷ xs) [] = omega arith

@@ -8,7 +8,7 @@ use Rattle.table.specs.Table.{entry, row, holds, row_at, entry_at}
 use Rattle.table.specs.declared.shape.Shape.{Shape}
 
 -- the row of a guess ends within the table
-pub row_within : (q n m : ℕ) → q < m → q * n + n ≤ m * n
+row_within : (q n m : ℕ) → q < m → q * n + n ≤ m * n
 row_within q n m h = omega (arith, suc-mul q n, mul-le-mul_right n h)
 
 -- a row has an entry for each code
