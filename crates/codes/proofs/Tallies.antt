@@ -85,5 +85,7 @@ module _ (m n xs ys : List ℕ) (lm : length m ≡ 16) (ln : length n ≡ 16) wh
       let ih = common_sum c (omega arith) hm hn in
       let ex = hm c (omega arith) in
       let ey = hn c (omega arith) in
-      rw (tm, tn, zip_push (take c m) (take c n) x y l, map_push (λ p. min p.0 p.1) pairs (x, y), sum_by_push (λ k. k) (map (λ p. min p.0 p.1) pairs) (min x y), ih)
+      let pushed = map_push (λ p. min p.0 p.1) pairs (x, y) in
+      let summed = sum_by_push (λ k. k) (map (λ p. min p.0 p.1) pairs) (min x y) in
+      rw (tm, tn, zip_push (take c m) (take c n) x y l, pushed, summed, ih)
       (grind (arith, nat_tests))

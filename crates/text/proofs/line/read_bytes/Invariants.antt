@@ -5,7 +5,9 @@ use Rattle.text.proofs.line.read_bytes.Given as goal
 abbrev pub invariant-loop-line : goal.invariant-loop-line
 invariant-loop-line l = record {
   text : l.line.text.now ≡ l.fn.line.text.now;
-  read : before (vec_items l.row) (bytes_from l.line.at (drop l.line.at l.line.text.now)) ≡ bytes_from l.fn.line.at (drop l.fn.line.at l.fn.line.text.now);
+  read :
+      before (vec_items l.row) (bytes_from l.line.at (drop l.line.at l.line.text.now))
+      ≡ bytes_from l.fn.line.at (drop l.fn.line.at l.fn.line.text.now);
 }
 
 abbrev pub decreases-loop-line : goal.decreases-loop-line
