@@ -118,4 +118,11 @@ fn a_table_of_three_guesses_and_two_codes(rt: HostRuntime) {
     assert_eq!(rt; table.entry(2, 0), Some(2));
     assert_eq!(rt; table.entry(2, 1), Some(1));
     assert_eq!(rt; table.entry(0, 2), None);
+    assert_eq!(rt; shape.row(&bytes, 1), Some(&[1, 3][0..2]));
+    assert_eq!(rt; shape.row(&bytes, 3), None);
+    assert_eq!(rt; shape.row(&bytes[..5], 1), None);
+    assert_eq!(rt; shape.entry(&bytes, 2, 0), Some(2));
+    assert_eq!(rt; shape.entry(&bytes, 2, 1), Some(1));
+    assert_eq!(rt; shape.entry(&bytes, 0, 2), None);
+    assert_eq!(rt; shape.entry(&bytes[..5], 2, 0), None);
 }

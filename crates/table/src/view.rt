@@ -41,3 +41,19 @@ impl<'a> Table<'a> {
         self.row(guess)?.get(code as usize).copied()
     }
 }
+
+impl Shape {
+    // The row of a guess in bytes that begin with a table of this shape; none where they are too few, or there is no such guess.
+    pub fn row(self, table: &[u8], guess: u16) -> Option<&[u8]>
+        ensures { option_map (λ x. x.now) result ≡ row_at self table.now guess }
+    {
+        Table::new(self, table)?.row(guess)
+    }
+
+    // What a code is told of a guess there, by number; none where the bytes are too few, or there is no such code or guess.
+    pub fn entry(self, table: &[u8], guess: u16, code: u16) -> Option<u8>
+        ensures { result ≡ entry_at self table.now guess code }
+    {
+        Table::new(self, table)?.entry(guess, code)
+    }
+}
