@@ -2,9 +2,8 @@
 use Rattle.std.proofs.Common.{◌≡◌, ℕ, zero, suc, ◌+◌, ◌-◌, ◌*◌, ◌/◌, ◌%◌, ◌<◌, ◌≤◌, true, false, List, [], ◌∷◌, ◌++◌, length, take, drop, set, replicate, refl, sym, ap, ◌∙◌, append_assoc, length-append, mul-le-mul, arith}
 use Rattle.std.proofs.lemmas.List.{append-nil, length-set, length-take, take_more_set, take_all, take_at, drop_at, drop-replicate}
 use Rattle.std.proofs.lemmas.Bool.Decides.{nat_tests}
-use Rattle.codes.specs.Codes.{Game, digits, pegs_of}
+use Rattle.codes.specs.Codes.{Game, digits, power, pegs_of}
 use Rattle.codes.specs.Pegs.{coloured, number_of}
-use Rattle.codes.specs.Promise.{Taken}
 use Rattle.codes.proofs.Digits.{number_lt}
 use Rattle.codes.proofs.Powers.{power_mono}
 
@@ -82,13 +81,11 @@ module _ (c : ℕ) (xs : List ℕ) where
 
   -- the number is below that of the game's codes, so it stays small when a peg is joined to it
   pub numbered_fits :
-      (g : Game) (rest : List ℕ) (n : ℕ) → Taken g → c ≡ g.colours → length xs ≡ g.pegs → Numbered rest n → n * c ≤ 255 * 16
-  numbered_fits g rest n t e long k =
+      (rest : List ℕ) (n p : ℕ) → Numbered rest n → 0 < c → c ≤ 16 → length xs ≡ p → power c p ≤ 256 → n * c ≤ 255 * 16
+  numbered_fits rest n p k some few long most =
       let low = number_lt c k.last k.colours in
       let parts = simp length-append at (ap length k.whole) in
-      let grows = power_mono c (length k.last) g.pegs (omega arith) (omega arith) in
-      let most = rw (← e) at t.4 in
-      let few : c ≤ 16 = omega arith in
+      let grows = power_mono c (length k.last) p some (omega arith) in
       mul-le-mul {n₂ = 255} (omega (arith, k.number)) few
 
   -- a peg of another colour makes no row of the game

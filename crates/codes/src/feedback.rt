@@ -2,33 +2,23 @@
 ghost use Rattle.std.specs.Prelude.{◌≡◌, ℕ, ◌+◌, ◌<◌, ◌≤◌, min, true, cond, map, length, sum, ◌==◌, nat_le, slice_index};
 ghost use Rattle.std.specs.List.{zip};
 ghost use Rattle.codes.specs.Codes.{of_colour, told_of};
+ghost use Rattle.codes.specs.Meaning.{as_game, as_told};
 ghost use Rattle.codes.specs.Pegs.{coloured};
 
 use crate::game::Game;
-use std::marker::Model;
 
 // How many pegs are right, of the code's colour at their place, and how many more are near, of a colour that it has elsewhere.
+// It has no `impl Model`, for the reason that `Game` has none.
 #[derive(Clone, Copy, PartialEq, Debug)]
 pub struct Feedback {
     pub right: u8,
     pub near: u8,
 }
 
-// A contract sees what the rule book says is told.
-impl Model for Feedback {
-    ghost use Rattle.codes.specs.Codes.{Told};
-
-    ghost Value = { Told };
-
-    ghost view = { λ f. record { right = f.right; near = f.near } };
-
-    ghost inverse = { λ t. record { right = t.right; near = t.near } };
-}
-
 impl Game {
     // What a guess is told of a code.
     pub fn feedback(self, code: u16, guess: u16) -> Feedback
-        ensures { result ≡ told_of self code guess }
+        ensures { as_told result ≡ told_of (as_game self) code guess }
     {
         let pegs = self.pegs() as usize;
         let colours = self.colours() as usize;
@@ -45,14 +35,14 @@ impl Game {
 
     // Whether feedback says that all pegs are right.
     pub fn is_all_right(self, feedback: Feedback) -> bool
-        ensures { result ≡ (feedback.right == self.pegs) }
+        ensures { result ≡ ((as_told feedback).right == (as_game self).pegs) }
     {
         feedback.right == self.pegs()
     }
 
     // Whether feedback is of no more pegs than the game has.
     pub fn allows(self, feedback: Feedback) -> bool
-        ensures { result ≡ nat_le (feedback.right + feedback.near) self.pegs }
+        ensures { result ≡ nat_le ((as_told feedback).right + (as_told feedback).near) (as_game self).pegs }
     {
         feedback.right as u16 + feedback.near as u16 <= self.pegs() as u16
     }

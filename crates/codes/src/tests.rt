@@ -109,3 +109,16 @@ fn feedback_of_more_pegs_than_there_are(rt: HostRuntime) {
         })
     );
 }
+
+// A value that holds a game and feedback is copied when it is passed.
+fn is_told(pair: (Game, Feedback)) -> bool {
+    pair.0.is_all_right(pair.1)
+}
+
+#[test]
+fn a_pair_of_a_game_and_feedback_is_passed_twice(rt: HostRuntime) {
+    let game = Game::new(4, 3).expect(&rt, "taken");
+    let pair = (game, Feedback { right: 4, near: 0 });
+    assert!(rt; is_told(pair));
+    assert!(rt; is_told(pair));
+}

@@ -1,6 +1,7 @@
 -- What the desk prints for a line. Assumes nothing: these are definitions.
 use Rattle.std.specs.Prelude.{ℕ, ◌-◌, ◌&&◌, List, length, take, Some, None, Ok, Err, Option, Result, ◌==◌, nat_lt, slice_index}
 use Rattle.codes.specs.Codes.{pick, Game, told_of}
+use Rattle.codes.specs.Meaning.{as_told}
 use Rattle.codes.specs.Pegs.{game_of, is_taken, code_of}
 use Rattle.text.specs.Lines.{Line, skipped, row, feedback, ceases, line_of}
 use Rattle.text.specs.Words.{in_words, right_and_near, refused_at}
@@ -27,7 +28,7 @@ told_of_rows g code guess = pick (is_taken g) (told_of_codes g (code_of g code) 
 
 -- what a guess is told, or why it is told nothing, in words
 abbrev pub told_in_words : Result Told Refusal → List ℕ
-told_in_words (Ok t) = right_and_near t.0
+told_in_words (Ok t) = right_and_near (as_told t.0)
 told_in_words (Err r) = refused_at (refusal_number r) 0
 
 -- nothing for a line that is passed over; the call that a row of bytes is, or how it is refused; what a guess is told; and a

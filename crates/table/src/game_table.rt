@@ -1,17 +1,18 @@
 // The table of a game: made in lent bytes when a game is opened, and read as feedback.
 ghost use Rattle.std.specs.Prelude.{◌≡◌, length};
+ghost use Rattle.std.specs.Option.{option_map};
 ghost use Rattle.codes.specs.Codes.{how_many};
+ghost use Rattle.codes.specs.Meaning.{as_game, as_told};
 ghost use Rattle.table.specs.Table.{told_number, row_of, tabulated, shape_in, looked_up};
 
 use crate::answers;
 use crate::shape::Shape;
-use crate::view::Table;
 use codes::{Feedback, Game};
 
 // Makes the table of a game at the front of lent bytes and gives its shape; bytes that are too few are left as they were.
 pub fn tabulate(game: Game, table: &mut [u8]) -> Option<Shape>
-    ensures value { result ≡ shape_in game table.old }
-    ensures after { table.new ≡ tabulated game table.old }
+    ensures value { result ≡ shape_in (as_game game) table.old }
+    ensures after { table.new ≡ tabulated (as_game game) table.old }
 {
     let shape = Shape::from(game);
     if table.len() < shape.size() {
@@ -26,16 +27,16 @@ pub fn tabulate(game: Game, table: &mut [u8]) -> Option<Shape>
 
 // What a code is told of a guess, by the table of a game.
 pub fn look_up(game: Game, table: &[u8], guess: u16, code: u16) -> Option<Feedback>
-    ensures { result ≡ looked_up game table.now guess code }
+    ensures { option_map as_told result ≡ looked_up (as_game game) table.now guess code }
 {
-    let number = Table::new(Shape::from(game), table)?.entry(guess, code)?;
+    let number = Shape::from(game).entry(table, guess, code)?;
     answers::feedback(game, number)
 }
 
 // Writes what a guess is told of each code.
 fn write_row(game: Game, guess: u16, row: &mut [u8])
-    requires { length row.old ≡ how_many game }
-    ensures { row.new ≡ row_of game guess }
+    requires { length row.old ≡ how_many (as_game game) }
+    ensures { row.new ≡ row_of (as_game game) guess }
 {
     for (code, entry) in row.iter_mut().enumerate() {
         *entry = told(game, guess, code as u16);
@@ -44,7 +45,7 @@ fn write_row(game: Game, guess: u16, row: &mut [u8])
 
 // What a guess is told of a code, by number.
 fn told(game: Game, guess: u16, code: u16) -> u8
-    ensures { result ≡ told_number game guess code }
+    ensures { result ≡ told_number (as_game game) guess code }
 {
     answers::place(game, game.feedback(code, guess))
 }

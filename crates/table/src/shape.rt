@@ -17,9 +17,10 @@ pub struct Shape {
 
 // The shape of a game's table: every code is a guess.
 impl From<Game> for Shape {
+    ghost use Rattle.codes.specs.Meaning.{as_game};
     ghost use Rattle.table.specs.Table.{shape_of};
 
-    ghost from_gives = { λ game shape. shape ≡ shape_of game };
+    ghost from_gives = { λ game shape. shape ≡ shape_of (as_game game) };
 
     fn from(game: Game) -> Shape {
         Shape {

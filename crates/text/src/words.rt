@@ -1,5 +1,6 @@
 // Calls, feedback and refusals in words.
 ghost use Rattle.std.specs.Prelude.{Some};
+ghost use Rattle.codes.specs.Meaning.{as_told};
 ghost use Rattle.text.specs.Words.{in_words, right_and_near, refused_at};
 ghost use Rattle.wire.specs.Meaning.{asks};
 
@@ -30,7 +31,7 @@ impl fmt::Display for InWords {
 pub struct Told(pub Feedback);
 
 impl fmt::Display for Told {
-    ghost output = { λ t. Some (right_and_near t.0) };
+    ghost output = { λ t. Some (right_and_near (as_told t.0)) };
 
     fn fmt<W: fmt::Write>(&self, f: &mut fmt::Formatter<W>) -> fmt::Result {
         let Feedback { right, near } = self.0;

@@ -1,6 +1,7 @@
 // Codes and their rows of pegs.
 ghost use Rattle.std.specs.Prelude.{◌≡◌, ◌-◌, take, drop, replicate};
 ghost use Rattle.codes.specs.Codes.{pegs_of};
+ghost use Rattle.codes.specs.Meaning.{as_game};
 ghost use Rattle.codes.specs.Pegs.{code_of};
 
 use crate::game::Game;
@@ -8,8 +9,8 @@ use crate::game::Game;
 impl Game {
     // The pegs of a code, the first peg first, and 0 behind them: an array, since nothing here allocates.
     pub fn pegs_of(self, code: u16) -> [u8; 8]
-        ensures pegs { take self.pegs result ≡ pegs_of self code }
-        ensures rest { drop self.pegs result ≡ replicate (8 - self.pegs) 0 }
+        ensures pegs { take (as_game self).pegs result ≡ pegs_of (as_game self) code }
+        ensures rest { drop (as_game self).pegs result ≡ replicate (8 - (as_game self).pegs) 0 }
     {
         let colours = self.colours() as u16;
         let mut row = [0; 8];
@@ -23,7 +24,7 @@ impl Game {
 
     // The code that has a row of pegs; none where the number of pegs, or the colour of one, is not the game's.
     pub fn code_of(self, row: &[u8]) -> Option<u16>
-        ensures { result ≡ code_of self row.now }
+        ensures { result ≡ code_of (as_game self) row.now }
     {
         if row.len() != self.pegs() as usize {
             return None;

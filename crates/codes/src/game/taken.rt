@@ -1,7 +1,8 @@
 // Which games are taken, and what they have.
 ghost use Rattle.std.specs.Prelude.{◌≡◌, ◌^◌, ◌<◌, Some, None, MatchOption};
-ghost use Rattle.std.specs.Option.{SomeIff};
+ghost use Rattle.std.specs.Option.{SomeIff, option_map};
 ghost use Rattle.codes.specs.Codes.{pick, power, how_many};
+ghost use Rattle.codes.specs.Meaning.{as_game};
 ghost use Rattle.codes.specs.Pegs.{game_of, is_taken};
 ghost use Rattle.codes.specs.Promise.{Taken};
 
@@ -10,7 +11,7 @@ use crate::game::Game;
 impl Game {
     // The game of so many pegs and colours, if it is taken.
     pub fn new(pegs: u8, colours: u8) -> Option<Game>
-        ensures made { result ≡ pick (is_taken (game_of pegs colours)) (Some (game_of pegs colours)) None }
+        ensures made { option_map as_game result ≡ pick (is_taken (game_of pegs colours)) (Some (game_of pegs colours)) None }
         ensures exactly { MatchOption result (Taken (game_of pegs colours) → ⊥) (λ _. Taken (game_of pegs colours)) }
     {
         let codes = count_codes(pegs, colours)?;
@@ -25,20 +26,20 @@ impl Game {
     }
 
     pub fn pegs(self) -> u8
-        ensures value { result ≡ self.pegs }
-        ensures taken { Taken self }
+        ensures value { result ≡ (as_game self).pegs }
+        ensures taken { Taken (as_game self) }
     {
         self.pegs
     }
 
     pub fn colours(self) -> u8
-        ensures { result ≡ self.colours }
+        ensures { result ≡ (as_game self).colours }
     {
         self.colours
     }
 
     pub fn codes(self) -> u16
-        ensures { result ≡ how_many self }
+        ensures { result ≡ how_many (as_game self) }
     {
         self.codes
     }

@@ -9,18 +9,22 @@ loop-peg-init c =
 
 pub returns-then-peg-colours : goal.returns-then-peg-colours
 returns-then-peg-colours c =
-    let no = not_coloured _ _ _ _ _ _ c.loop-peg.invariant c.in-Some.ensures.steps c.if-peg-colours.true in
+    let no = not_coloured _ _ _ _ _ _ c.loop-peg.invariant c.in-Some.ensures.steps (omega arith) in
     grind (arith, nat_tests, c.colours-colours.ensures)
 
 pub overflow_mul-code : goal.overflow_mul-code
 overflow_mul-code c =
-    let small = numbered_fits _ _ c.args.self _ _ c.pegs.ensures.taken c.colours-colours.ensures (omega arith) c.loop-peg.invariant in
+    let t = c.args.self.taken in
+    let most = rw (← c.colours-colours.ensures) at t.4 in
+    let small = numbered_fits _ _ _ _ _ c.loop-peg.invariant (omega arith) (omega arith) (omega arith) most in
     search rules
 
 pub overflow_add-code : goal.overflow_add-code
 overflow_add-code c =
-    let small = numbered_fits _ _ c.args.self _ _ c.pegs.ensures.taken c.colours-colours.ensures (omega arith) c.loop-peg.invariant in
+    let t = c.args.self.taken in
+    let most = rw (← c.colours-colours.ensures) at t.4 in
+    let small = numbered_fits _ _ _ _ _ c.loop-peg.invariant (omega arith) (omega arith) (omega arith) most in
     search rules
 
 pub loop-peg-preserved : goal.loop-peg-preserved
-loop-peg-preserved c = numbered_more _ _ _ _ _ _ c.loop-peg.invariant c.in-Some.ensures.steps c.if-peg-colours.false
+loop-peg-preserved c = numbered_more _ _ _ _ _ _ c.loop-peg.invariant c.in-Some.ensures.steps (omega arith)

@@ -1,5 +1,6 @@
 use Rattle.std.proofs.Common.{◌≡◌, ◌-◌, ap₂, ◌∙◌, arith, rules}
 use Rattle.codes.specs.Codes.{pegs_of, at_place, in_common}
+use Rattle.codes.specs.Meaning.{as_game}
 use Rattle.codes.proofs.Compared.{known, right, common}
 use Rattle.codes.proofs.Digits.{length_digits, coloured_digits}
 use Rattle.codes.proofs.Told.{at_place_common, in_common_le}
@@ -15,7 +16,7 @@ tally-requires-2-clause-known c =
 
 pub sum_of_lesser-common-requires : goal.sum_of_lesser-common-requires
 sum_of_lesser-common-requires c =
-    let g = c.args.self in
+    let g = as_game c.args.self in
     let code = c.pegs_of-code_row.ensures.pegs in
     let guess = c.pegs_of-guess_row.ensures.pegs in
     let t = c.pegs-pegs.ensures.taken in
@@ -28,27 +29,27 @@ sum_of_lesser-common-requires c =
 
 right_is :
     (c : goal.After-sum_of_lesser-common) →
-    c.at_place-right.result ≡ at_place (pegs_of c.args.self c.args.code) (pegs_of c.args.self c.args.guess)
+    c.at_place-right.result ≡ at_place (pegs_of (as_game c.args.self) c.args.code) (pegs_of (as_game c.args.self) c.args.guess)
 right_is c =
     let code = c.pegs_of-code_row.ensures.pegs in
     let guess = c.pegs_of-guess_row.ensures.pegs in
-    right c.args.self _ c.pegs-pegs.ensures.value _ _ _ _ code guess _ c.at_place-right.ensures
+    right (as_game c.args.self) _ c.pegs-pegs.ensures.value _ _ _ _ code guess _ c.at_place-right.ensures
 
 common_is :
     (c : goal.After-sum_of_lesser-common) →
     c.sum_of_lesser-common.result
-    ≡ in_common c.args.self.colours (pegs_of c.args.self c.args.code) (pegs_of c.args.self c.args.guess)
+    ≡ in_common c.args.self.colours (pegs_of (as_game c.args.self) c.args.code) (pegs_of (as_game c.args.self) c.args.guess)
 common_is c =
     let code = c.pegs_of-code_row.ensures.pegs in
     let guess = c.pegs_of-guess_row.ensures.pegs in
     let t = c.pegs-pegs.ensures.taken in
     c.sum_of_lesser-common.ensures
-    ∙ common c.args.self _ c.pegs-pegs.ensures.value _ _ _ _ code guess _ _ _ (search rules) (search rules) t
+    ∙ common (as_game c.args.self) _ c.pegs-pegs.ensures.value _ _ _ _ code guess _ _ _ (search rules) (search rules) t
     c.colours-colours.ensures c.tally.ensures c.tally-2.ensures
 
 pub overflow_sub-result : goal.overflow_sub-result
 overflow_sub-result c =
-    let g = c.args.self in
+    let g = as_game c.args.self in
     let coloured = coloured_digits g.pegs g.colours c.args.code c.pegs-pegs.ensures.taken.2 in
     omega (arith, right_is c, common_is c, at_place_common g.colours _ (pegs_of g c.args.guess) coloured)
 
