@@ -33,6 +33,13 @@ impl TryFrom<&[u8]> for Answer {
 }
 
 impl Answer {
+    // As `try_from`, and takes an array too.
+    pub fn read(row: &[u8]) -> Result<Answer, Garbled>
+        ensures { answered result ≡ answer_of row.now }
+    {
+        Answer::try_from(row)
+    }
+
     // Writes the answer's bytes to the front of a buffer and says how many; one that is too short is left as it was.
     pub fn write(self, out: &mut [u8]) -> Result<usize, TooShort>
         ensures value { result ≡ put_said (answer_bytes (says self)) out.old }

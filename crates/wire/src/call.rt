@@ -31,6 +31,13 @@ impl TryFrom<&[u8]> for Call {
 }
 
 impl Call {
+    // As `try_from`, and takes an array too.
+    pub fn read(row: &[u8]) -> Result<Call, Garbled>
+        ensures { asked result ≡ call_of row.now }
+    {
+        Call::try_from(row)
+    }
+
     // Writes the call's bytes to the front of a buffer and says how many; one that is too short is left as it was.
     pub fn write(self, out: &mut [u8]) -> Result<usize, TooShort>
         ensures value { result ≡ put_said (bytes_of (asks self)) out.old }

@@ -2,12 +2,16 @@
 use crate::{Answer, Call, Garbled, Refusal, TooShort};
 use std::process::Abort;
 
-// Writing puts a row at the front of a buffer of sevens.
-fn writes<W: FnOnce(&mut [u8]) -> Result<usize, TooShort>>(rt: &impl Abort, row: &[u8], write: W)
+// Writing puts a row at the front of a buffer of sevens, a byte longer than the longest row.
+fn writes<W: FnOnce(&mut [u8]) -> Result<usize, TooShort>>(
+    rt: &impl Abort,
+    row: &[u8],
+    out: &mut [u8],
+    write: W,
+)
     requires { W.IsAlwaysCallable write }
 {
-    let mut out = [7; 10];
-    assert_eq!(rt; write(&mut out), Ok(row.len()));
+    assert_eq!(rt; write(&mut *out), Ok(row.len()));
     let rest = out.strip_prefix(row);
     assert!(rt; rest.is_some_and(|rest| rest.iter().all(|byte| *byte == 7)));
 }
@@ -28,7 +32,7 @@ fn each_call_by_its_bytes(rt: HostRuntime) {
     ];
     for (call, row) in calls {
         assert_eq!(rt; Call::try_from(row), Ok(call));
-        writes(&rt, row, |out| call.write(out));
+        writes(&rt, row, &mut [7; 6], |out| call.write(out));
     }
 }
 
@@ -75,7 +79,7 @@ fn each_answer_by_its_bytes(rt: HostRuntime) {
     ];
     for (answer, row) in answers {
         assert_eq!(rt; Answer::try_from(row), Ok(answer));
-        writes(&rt, row, |out| answer.write(out));
+        writes(&rt, row, &mut [7; 10], |out| answer.write(out));
     }
     let rows: [(&[u8], u32); 3] = [(&[3], 0), (&[1, 0, 0, 0], 4), (&[1, 0, 0, 0, 0, 0], 5)];
     for (row, place) in rows {
