@@ -1,6 +1,7 @@
 -- What the types of the code stand for. Assumes nothing: these are definitions.
-use Rattle.std.specs.Prelude.{◌≡◌, Option, Some, None, vec_items}
+use Rattle.std.specs.Prelude.{◌≡◌, ℕ, List, Option, Some, None, codes, vec_items}
 use Rattle.text.specs.Lines as lines
+use Rattle.text.specs.Words.{refused_at}
 use Rattle.text.specs.declared.line.Line.{Line}
 use Rattle.text.specs.declared.line.Line.TheVariants.{Row, Feedback}
 use Rattle.text.specs.declared.line.LineError.{LineError}
@@ -20,3 +21,8 @@ asks (Some l) = means l
 abbrev pub Refuses : LineError → lines.Line → Type 0
 Refuses (Unreadable place) l = lines.ceases place ≡ l
 Refuses OutOfMemory l = Unit {0}
+
+-- an error in words: how the line is refused, or that memory ran out
+abbrev pub error_in_words : LineError → List ℕ
+error_in_words (Unreadable place) = refused_at 1 place
+error_in_words OutOfMemory = codes "memory allocation failed"

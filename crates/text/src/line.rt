@@ -1,12 +1,16 @@
 // What a line of text asks.
-ghost use Rattle.std.specs.Prelude.{◌≡◌, ◌≤◌, drop, length, IfOk, IfErr};
+ghost use Rattle.std.specs.Prelude.{◌≡◌, ◌≤◌, drop, length, Some, IfOk, IfErr};
 ghost use Rattle.text.specs.Lines.{white, blank, comment, along, bytes_from, line_of};
-ghost use Rattle.text.specs.Meaning.{means, asks, Refuses};
+ghost use Rattle.text.specs.Meaning.{means, asks, Refuses, error_in_words};
 ghost use Rattle.text.specs.declared.line.LineError.TheVariants.{Unreadable, OutOfMemory};
 
 use crate::cursor::{Cursor, Misfit};
 use crate::feedback::read_feedback;
+use crate::words::Refused;
 use std::alloc::{AllocError, AllocFailed, Global};
+use std::error::Error;
+use std::fmt;
+use wire::Refusal;
 
 // A row of bytes; or how many pegs and colours a game has, with a code and a guess.
 #[derive(Drop)]
@@ -26,6 +30,23 @@ pub enum LineError {
     Unreadable { place: usize },
     OutOfMemory,
 }
+
+// An error as it is printed: the refusal of the line, or the library's words for want of memory.
+impl fmt::Display for LineError {
+    ghost output = { λ e. Some (error_in_words e) };
+
+    fn fmt<W: fmt::Write>(&self, f: &mut fmt::Formatter<W>) -> fmt::Result {
+        match *self {
+            LineError::Unreadable { place } => {
+                let number = Refusal::Unreadable.into();
+                Refused { number, place }.fmt(f)
+            }
+            LineError::OutOfMemory => write!(f, "memory allocation failed"),
+        }
+    }
+}
+
+impl Error for LineError {}
 
 // What a cursor refuses is where the line ceases to be one.
 impl From<Misfit> for LineError {
