@@ -23,7 +23,10 @@ fn checksum(table: &[u8]) -> u32
 
 // Makes a game's table again and again, and prints its checksum and the least seconds that it took.
 fn measure(rt: &HostRuntime, pegs: u8, colours: u8) -> anyhow::Result<()> {
-    let game = Game::new(pegs, colours).ok_or_else(|| anyhow!("there is no such game"))?;
+    // Behind an `ok_or_else` the compiler no longer sees how many pegs there can be, and what is measured takes longer.
+    let Some(game) = Game::new(pegs, colours) else {
+        return Err(anyhow!("there is no such game"));
+    };
     let size = Shape::from(game).size();
     let mut table = vec![in rt.alloc(); 0u8; size]?;
     let mut least = f64::MAX;

@@ -1,4 +1,3 @@
-pub mod Compared
 pub mod Digits
 pub mod Powers
 pub mod Rows

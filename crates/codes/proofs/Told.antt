@@ -1,8 +1,6 @@
 -- What two rows of pegs have alike, at the same place and at any place. Assumes nothing.
-use Rattle.std.proofs.Common.{◌≡◌, ℕ, zero, suc, ◌+◌, ◌-◌, ◌≤◌, Bool, true, false, cond, ◌&&◌, eqb, ltb, ◌⊎◌, List, [], ◌∷◌, map, length, refl, ap, ap₂, ◌∙◌, inl, inr, arith}
-use Rattle.std.proofs.lemmas.List.Sums.{sum_by-cons}
+use Rattle.std.proofs.Common.{◌≡◌, ℕ, zero, suc, ◌+◌, ◌-◌, ◌≤◌, true, ◌&&◌, eqb, ltb, ◌⊎◌, List, [], ◌∷◌, length, refl, ap, inl, inr, arith}
 use Rattle.std.proofs.lemmas.Bool.Decides.{eqb_tells, nat_tests}
-use Rattle.std.specs.List.{sum, zip}
 use Rattle.codes.specs.Codes.{pick, pegs_of, at_place, of_colour, in_common}
 use Rattle.codes.specs.Laws.{WithinPegs, ItselfRight, NeverOneNear}
 use Rattle.codes.specs.Pegs.{coloured}
@@ -140,16 +138,3 @@ never_one_near g c q h =
     let lc = length_of c in let lq = length_of q in
     let within = within_pegs g c q in
     omega (arith, none_near g.colours (pegs_of g c) (pegs_of g q) (omega arith) (omega arith))
-
-cond_pick : {A : Type 0} (b : Bool) (x y : A) → cond b x y ≡ pick b x y
-cond_pick true x y = refl
-cond_pick false x y = refl
-
--- rows are alike where their pairs of pegs are
-pub at_place_sum : (xs ys : List ℕ) → sum (map (λ p. cond (eqb p.0 p.1) 1 0) (zip xs ys)) ≡ at_place xs ys
-unfolding at_place
-at_place_sum [] ys = refl
-at_place_sum (x ∷ xs) [] = refl
-at_place_sum (x ∷ xs) (y ∷ ys) =
-    sum_by-cons (λ n. n) (cond (eqb x y) 1 0) (map (λ p. cond (eqb p.0 p.1) 1 0) (zip xs ys))
-    ∙ ap₂ (λ m n. m + n) (cond_pick (eqb x y) 1 0) (at_place_sum xs ys)

@@ -1,7 +1,6 @@
 // What a guess is told of a code.
-ghost use Rattle.std.specs.Prelude.{◌≡◌, ℕ, ◌+◌, ◌<◌, ◌≤◌, min, true, cond, map, length, sum, ◌==◌, nat_le, slice_index};
-ghost use Rattle.std.specs.List.{zip};
-ghost use Rattle.codes.specs.Codes.{of_colour, told_of};
+ghost use Rattle.std.specs.Prelude.{◌≡◌, ℕ, ◌+◌, ◌<◌, ◌≤◌, true, length, ◌==◌, nat_le, slice_index};
+ghost use Rattle.codes.specs.Codes.{at_place, of_colour, in_common, told_of};
 ghost use Rattle.codes.specs.Meaning.{as_game, as_told};
 ghost use Rattle.codes.specs.Pegs.{coloured};
 
@@ -21,12 +20,10 @@ impl Game {
         ensures { as_told result ≡ told_of (as_game self) code guess }
     {
         let pegs = self.pegs() as usize;
-        let colours = self.colours() as usize;
         let code_row = self.pegs_of(code);
         let guess_row = self.pegs_of(guess);
-        let (code, guess) = (&code_row[..pegs], &guess_row[..pegs]);
-        let right = at_place(code, guess);
-        let common = sum_of_lesser(&tally(code)[..colours], &tally(guess)[..colours]);
+        let right = at_place(&code_row[..pegs], &guess_row[..pegs]);
+        let common = in_common(self.colours(), &code_row[..pegs], &guess_row[..pegs]);
         Feedback {
             right,
             near: common - right,
@@ -49,22 +46,19 @@ impl Game {
 }
 
 // How many pegs of two rows are the same at the same place.
+// By index: a sum over pairs is slower, and no wrong body of it is refused for what it means.
 fn at_place(code: &[u8], guess: &[u8]) -> u8
-    requires { length code.now ≤ 8 }
-    ensures { result ≡ sum (map (λ p. cond (p.0 == p.1) 1 0) (zip code.now guess.now)) }
+    requires lengths { length code.now ≡ length guess.now }
+    requires short { length code.now ≤ 8 }
+    ensures { result ≡ at_place code.now guess.now }
 {
-    code.iter()
-        .zip(guess)
-        .map(|(a, b)| u8::from(*a == *b))
-        .sum()
-}
-
-// The sum of the smaller of both numbers at each place.
-fn sum_of_lesser(a: &[u8], b: &[u8]) -> u8
-    requires { sum (map (λ p. min p.0 p.1) (zip a.now b.now)) < 256 }
-    ensures { result ≡ sum (map (λ p. min p.0 p.1) (zip a.now b.now)) }
-{
-    a.iter().zip(b).map(|(x, y)| *x.min(y)).sum()
+    let mut right = 0;
+    for i in 0..code.len() {
+        if code[i] == guess[i] {
+            right += 1;
+        }
+    }
+    right
 }
 
 // How many pegs of a row are of each colour, of sixteen: an array, since nothing here allocates.
@@ -79,4 +73,21 @@ fn tally(row: &[u8]) -> [u8; 16]
         counts[*peg as usize] += 1;
     }
     counts
+}
+
+// How many pegs two rows have in common, at whatever places: of each colour the smaller of both numbers.
+// By index, as `at_place`.
+fn in_common(colours: u8, code: &[u8], guess: &[u8]) -> u8
+    requires few { colours ≤ 16 }
+    requires short { (length code.now ≤ 8) × (length guess.now ≤ 8) }
+    requires known { (coloured 16 code.now ≡ true) × (coloured 16 guess.now ≡ true) }
+    ensures { result ≡ in_common colours code.now guess.now }
+{
+    let code_tally = tally(code);
+    let guess_tally = tally(guess);
+    let mut common = 0;
+    for colour in 0..colours as usize {
+        common += code_tally[colour].min(guess_tally[colour]);
+    }
+    common
 }

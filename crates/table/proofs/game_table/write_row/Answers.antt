@@ -1,4 +1,4 @@
-use Rattle.std.proofs.Common.{◌≡◌, refl, arith}
+use Rattle.std.proofs.Common.{◌≡◌, refl, arith, rules}
 use Rattle.std.proofs.lemmas.List.{take_all}
 use Rattle.codes.specs.Codes.{how_many, all_codes}
 use Rattle.codes.specs.Meaning.{as_game}
@@ -10,7 +10,7 @@ unfolding all_codes
 loop-code-init c = refl
 
 pub loop-code-preserved : goal.loop-code-preserved
-loop-code-preserved c = filled_more _ c.loop-code.row _ _ c.loop-code.invariant (omega arith) c.told.ensures
+loop-code-preserved c = filled_more _ c.loop-code.row _ _ c.loop-code.invariant (omega arith) (search (rules, c.told.ensures))
 
 end : (c : goal.After-loop-code) → c.loop-code.code ≡ how_many (as_game c.args.game)
 end c = omega arith

@@ -1,57 +1,34 @@
-use Rattle.std.proofs.Common.{◌≡◌, ◌-◌, ap₂, ◌∙◌, arith, rules}
-use Rattle.codes.specs.Codes.{pegs_of, at_place, in_common}
-use Rattle.codes.specs.Meaning.{as_game}
-use Rattle.codes.proofs.Compared.{known, right, common}
-use Rattle.codes.proofs.Digits.{length_digits, coloured_digits}
-use Rattle.codes.proofs.Told.{at_place_common, in_common_le}
+use Rattle.std.proofs.Common.{◌≡◌, ℕ, ◌<◌, ◌≤◌, true, List, take, arith}
+use Rattle.codes.specs.Codes.{digits, at_place, in_common}
+use Rattle.codes.specs.Pegs.{coloured}
+use Rattle.codes.proofs.Digits.{coloured_digits, coloured_more}
+use Rattle.codes.proofs.Told.{at_place_common}
 use Rattle.codes.proofs.game.Game.feedback.Goals as goal
 
-pub tally-requires-clause-known : goal.tally-requires-clause-known
-tally-requires-clause-known c =
-    known _ _ c.pegs-pegs.ensures.value _ _ c.pegs-pegs.ensures.taken c.pegs_of-code_row.ensures.pegs
+coloured_row :
+    (k p c n : ℕ) (row : List ℕ) → k ≡ p → take p row ≡ digits p c n → 0 < c → c ≤ 16 → coloured 16 (take k row) ≡ true
+coloured_row k p c n row e is some few = rw (e, is) (coloured_more c 16 (digits p c n) few (coloured_digits p c n some))
 
-pub tally-requires-2-clause-known : goal.tally-requires-2-clause-known
-tally-requires-2-clause-known c =
-    known _ _ c.pegs-pegs.ensures.value _ _ c.pegs-pegs.ensures.taken c.pegs_of-guess_row.ensures.pegs
+pub in_common-common-requires-clause-known : goal.in_common-common-requires-clause-known
+in_common-common-requires-clause-known c =
+    let t = c.args.self.taken in (
+      coloured_row _ _ _ _ _ c.pegs-pegs.ensures.value c.pegs_of-code_row.ensures.pegs t.2 t.3,
+      coloured_row _ _ _ _ _ c.pegs-pegs.ensures.value c.pegs_of-guess_row.ensures.pegs t.2 t.3,
+    )
 
-pub sum_of_lesser-common-requires : goal.sum_of_lesser-common-requires
-sum_of_lesser-common-requires c =
-    let g = as_game c.args.self in
-    let code = c.pegs_of-code_row.ensures.pegs in
-    let guess = c.pegs_of-guess_row.ensures.pegs in
-    let t = c.pegs-pegs.ensures.taken in
-    let e =
-    common g _ c.pegs-pegs.ensures.value _ _ _ _ code guess _ _ _ (search rules) (search rules) t c.colours-colours.ensures
-    c.tally.ensures c.tally-2.ensures
-    in
-    let most = in_common_le g.colours (pegs_of g c.args.code) (pegs_of g c.args.guess) in
-    rw e (omega (arith, length_digits g.pegs g.colours c.args.code))
+-- the rows that are compared are the pegs of the code and of the guess
+abbrev pegs : goal.After-in_common-common → ℕ → List ℕ
+pegs c n = digits c.args.self.pegs c.args.self.colours n
 
-right_is :
-    (c : goal.After-sum_of_lesser-common) →
-    c.at_place-right.result ≡ at_place (pegs_of (as_game c.args.self) c.args.code) (pegs_of (as_game c.args.self) c.args.guess)
-right_is c =
-    let code = c.pegs_of-code_row.ensures.pegs in
-    let guess = c.pegs_of-guess_row.ensures.pegs in
-    right (as_game c.args.self) _ c.pegs-pegs.ensures.value _ _ _ _ code guess _ c.at_place-right.ensures
+right : (c : goal.After-in_common-common) → c.at_place-right.result ≡ at_place (pegs c c.args.code) (pegs c c.args.guess)
+right c = cc
 
-common_is :
-    (c : goal.After-sum_of_lesser-common) →
-    c.sum_of_lesser-common.result
-    ≡ in_common c.args.self.colours (pegs_of (as_game c.args.self) c.args.code) (pegs_of (as_game c.args.self) c.args.guess)
-common_is c =
-    let code = c.pegs_of-code_row.ensures.pegs in
-    let guess = c.pegs_of-guess_row.ensures.pegs in
-    let t = c.pegs-pegs.ensures.taken in
-    c.sum_of_lesser-common.ensures
-    ∙ common (as_game c.args.self) _ c.pegs-pegs.ensures.value _ _ _ _ code guess _ _ _ (search rules) (search rules) t
-    c.colours-colours.ensures c.tally.ensures c.tally-2.ensures
+common :
+    (c : goal.After-in_common-common) →
+    c.in_common-common.result ≡ in_common c.args.self.colours (pegs c c.args.code) (pegs c c.args.guess)
+common c = cc c.colours.ensures
 
 pub overflow_sub-result : goal.overflow_sub-result
 overflow_sub-result c =
-    let g = as_game c.args.self in
-    let coloured = coloured_digits g.pegs g.colours c.args.code c.pegs-pegs.ensures.taken.2 in
-    omega (arith, right_is c, common_is c, at_place_common g.colours _ (pegs_of g c.args.guess) coloured)
-
-pub returns : goal.returns
-returns c = ap₂ (λ r n. record { right = r; near = n - r }) (right_is c) (common_is c)
+    let code = coloured_digits c.args.self.pegs c.args.self.colours c.args.code c.args.self.taken.2 in
+    omega (arith, right c, common c, at_place_common c.args.self.colours _ (pegs c c.args.guess) code)
