@@ -29,12 +29,10 @@ impl Game {
 
     fn feedback(self, code: u16, guess: u16) -> Feedback {
         let pegs = self.pegs as usize;
-        let colours = self.colours as usize;
         let code_row = self.pegs_of(code);
         let guess_row = self.pegs_of(guess);
-        let (code, guess) = (&code_row[..pegs], &guess_row[..pegs]);
-        let right = at_place(code, guess);
-        let common = sum_of_lesser(&tally(code)[..colours], &tally(guess)[..colours]);
+        let right = at_place(&code_row[..pegs], &guess_row[..pegs]);
+        let common = in_common(self.colours, &code_row[..pegs], &guess_row[..pegs]);
         Feedback {
             right,
             near: common - right,
@@ -43,14 +41,13 @@ impl Game {
 }
 
 fn at_place(code: &[u8], guess: &[u8]) -> u8 {
-    code.iter()
-        .zip(guess)
-        .map(|(a, b)| u8::from(*a == *b))
-        .sum()
-}
-
-fn sum_of_lesser(a: &[u8], b: &[u8]) -> u8 {
-    a.iter().zip(b).map(|(x, y)| *x.min(y)).sum()
+    let mut right = 0;
+    for i in 0..code.len() {
+        if code[i] == guess[i] {
+            right += 1;
+        }
+    }
+    right
 }
 
 fn tally(row: &[u8]) -> [u8; 16] {
@@ -59,6 +56,16 @@ fn tally(row: &[u8]) -> [u8; 16] {
         counts[*peg as usize] += 1;
     }
     counts
+}
+
+fn in_common(colours: u8, code: &[u8], guess: &[u8]) -> u8 {
+    let code_tally = tally(code);
+    let guess_tally = tally(guess);
+    let mut common = 0;
+    for colour in 0..colours as usize {
+        common += code_tally[colour].min(guess_tally[colour]);
+    }
+    common
 }
 
 fn first_with(pegs: u8, right: u8) -> u8 {

@@ -46,7 +46,7 @@ impl Game {
 }
 
 // How many pegs of two rows are the same at the same place.
-// By index: a sum over pairs is slower, and no wrong body of it is refused for what it means.
+// By index: of a sum over pairs the check proves one body, and refuses every other alike, wrong or right.
 fn at_place(code: &[u8], guess: &[u8]) -> u8
     requires lengths { length code.now ≡ length guess.now }
     requires short { length code.now ≤ 8 }
