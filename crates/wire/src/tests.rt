@@ -88,6 +88,17 @@ fn each_answer_by_its_bytes(rt: HostRuntime) {
 }
 
 #[test]
+fn an_array_is_read_as_a_row(rt: HostRuntime) {
+    assert_eq!(rt; Call::read(&[3, 0, 255]), Ok(Call::CouldBe(65280)));
+    assert_eq!(rt; Call::read(&[4, 4]), Err(Garbled { place: 1 }));
+    assert_eq!(rt;
+        Answer::read(&[1, 1, 2, 3, 4]),
+        Ok(Answer::Number(67305985))
+    );
+    assert_eq!(rt; Answer::read(&[3]), Err(Garbled { place: 0 }));
+}
+
+#[test]
 fn a_short_buffer_is_left_as_it_was(rt: HostRuntime) {
     let mut out = [7; 4];
     assert_eq!(rt;

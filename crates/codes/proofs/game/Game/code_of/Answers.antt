@@ -14,15 +14,13 @@ returns-then-peg-colours c =
 
 pub overflow_mul-code : goal.overflow_mul-code
 overflow_mul-code c =
-    let t = c.args.self.taken in
-    let most = rw (← c.colours-colours.ensures) at t.4 in
+    let most = rw (← c.colours-colours.ensures) at c.args.self.taken.4 in
     let small = numbered_fits _ _ _ _ _ c.loop-peg.invariant (omega arith) (omega arith) (omega arith) most in
     search rules
 
 pub overflow_add-code : goal.overflow_add-code
 overflow_add-code c =
-    let t = c.args.self.taken in
-    let most = rw (← c.colours-colours.ensures) at t.4 in
+    let most = rw (← c.colours-colours.ensures) at c.args.self.taken.4 in
     let small = numbered_fits _ _ _ _ _ c.loop-peg.invariant (omega arith) (omega arith) (omega arith) most in
     search rules
 
